@@ -1,0 +1,5 @@
+pub mod Outcome
+pub mod Numbers
+pub mod Xor
+pub mod Buffers
+pub mod Rule
