@@ -1,13 +1,12 @@
 -- Lent buffers: what is laid over them, piece by piece.
-use Prim.Native.Nat.{ℕ, zero, suc, _+_, _-_, _≤_, _<_}
-use mathlib.Core.Path.{_≡_, refl, sym, ap, ap₂, _∙_}
-use mathlib.Core.List.{List, [], _∷_, _++_, append-assoc, append-nil}
+use Prim.Native.Nat.{ℕ, _+_, _-_, _≤_, _<_}
+use mathlib.Core.Path.{_≡_, refl}
+use mathlib.Core.List.{List, [], _++_}
 use native.Mathlib.Numerals.{add-one}
 use native.Mathlib.Omega.{arith}
-use lib.ListN.{length, getD, set, take, drop, length-append, length-drop, length-take, take-append-drop}
-use lib.Seq.{paste, paste-suc, paste-zero, length-paste, take-length, drop-at, take-at, drop-drop, length-take-le}
-use Rattle.octets.specs.Outcome.{Outcome, refused, given}
-use Rattle.octets.specs.Octets.{laid, begun, placed}
+use lib.ListN.{length, getD, set, take, drop, length-append, length-drop}
+use lib.Seq.{paste, paste-suc, paste-zero, take-length, drop-at, take-at, drop-drop, length-take-le}
+use Rattle.octets.specs.Octets.{laid, begun}
 
 -- ---- a loop that lays s over d from at on, one element a turn
 pub lay-start : (d : List ℕ) (at : ℕ) (s : List ℕ) → d ≡ paste d at s 0

@@ -1,5 +1,5 @@
 -- Big-endian numbers: how long, how large, written and read back.
-use Prim.Native.Nat.{ℕ, zero, suc, _+_, _-_, _*_, _/_, _%_, _^_, _≤_, _<_}
+use Prim.Native.Nat.{ℕ, zero, suc, _+_, _-_, _*_, _/_, _%_, _^_, _<_}
 use mathlib.Core.Path.{_≡_, refl, ap, _∙_}
 use mathlib.Core.List.{List, [], _∷_, foldl}
 use native.Mathlib.Nat.{pow-suc, pow-succ', one-le-pow, mod-one, mul-suc, mul-assoc, mul-comm, not-suc-le-zero, le-of-suc-le-suc}

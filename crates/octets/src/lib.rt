@@ -1,14 +1,24 @@
 // Bytes as every other room uses them: numbers read and written big-endian, and copies into a lent buffer.
 ghost use mathlib.Core.Path.{_≡_};
-ghost use Prim.Native.Nat.{_+_, _≤_};
+ghost use Prim.Native.Nat.{_+_, _^_, _≤_, _<_};
 ghost use lib.ListN.{length};
 ghost use Rattle.octets.specs.Octets.{bytes, number, xor, laid};
+
+pub mod refusal;
 
 // A byte as a word.
 pub fn wide(byte: u8) -> u64
     ensures { λ r. ⌜ r ≡ byte ⌝ }
 {
     byte as u64
+}
+
+// A power of two that fits a word.
+pub fn power(bits: usize) -> u64
+    requires { ⌜ bits < 64 ⌝ }
+    ensures { λ r. ⌜ r ≡ 2 ^ bits ⌝ }
+{
+    1 << bits
 }
 
 // The number that up to eight bytes spell, the most significant first.

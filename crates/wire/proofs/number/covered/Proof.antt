@@ -1,0 +1,16 @@
+-- Four bytes cover the gap, or none do.
+use Prim.Native.Nat.{_-_}
+use mathlib.Core.Path.{sym}
+use native.Mathlib.Omega.{arith}
+use Rattle.wire.proofs.Numbers.{uncovered, covered}
+use Rattle.wire.proofs.number.covered.Statement.{statement}
+use Rattle.wire.proofs.number.covered.Tie as tie
+
+returns : tie.Need-returns
+returns c = sym (uncovered _ (omega arith))
+
+returns-2 : tie.Need-returns-2
+returns-2 c = sym (covered _ (omega arith))
+
+pub covered-spec : {M : Type 1} → statement M
+covered-spec = tie.close (tie.spec returns returns-2)

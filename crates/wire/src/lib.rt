@@ -1,0 +1,3 @@
+// RFC 9000 sections 16 and 17: what stands on the wire.
+pub mod integer;
+pub mod number;
