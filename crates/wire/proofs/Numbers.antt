@@ -6,11 +6,11 @@ use lib.Dec.{leb, ltb}
 use native.Mathlib.Nat.{two-pow-succ}
 use native.Mathlib.Omega.{arith}
 use lib.Count.{leadingZeros, leading-top}
-use lib.Pow.{pow-mono}
-use borrow.Author.Tests.{le-leb, lt-leb, lt-ltb, le-ltb, leb-true, leb-false, ltb-true, ne-eqb}
+use lib.Pow.{pow-mono, pow-pos}
+use borrow.Author.Tests.{le-leb, lt-leb, lt-ltb, le-ltb, leb-true, leb-false, ltb-true}
 use Rattle.octets.specs.Outcome.{refused, given}
 use Rattle.octets.proofs.Outcome.{passed, given-same}
-use Rattle.wire.specs.Numbers.{Acknowledged, nothing, upTo, numbers, window, half, coverable, gap, halvings, bitLength, smallestLength, shortened}
+use Rattle.wire.specs.Numbers.{Acknowledged, nothing, upTo, numbers, window, half, coverable, ahead, gap, halvings, bitLength, smallestLength, shortened}
 
 -- ---- the gap
 pub uncovered : (g : ℕ) → half 4 ≤ g → coverable g ≡ refused 14
@@ -21,17 +21,23 @@ pub covered : (g : ℕ) → g < half 4 → coverable g ≡ given g
 unfolding coverable
 covered g h = rw (lt-ltb g (half 4) h)
 
-pub gap-none : (m : ℕ) → gap m nothing ≡ coverable (m + 1)
-unfolding gap
-gap-none m = refl
+module _ (m : ℕ) where
+  pub gap-range : (a : Acknowledged) → numbers ≤ m → gap m a ≡ refused 10
+  unfolding gap
+  gap-range a h = rw (le-ltb m numbers h)
 
-pub gap-behind : (m a : ℕ) → m ≤ a → gap m (upTo a) ≡ refused 14
-unfolding gap
-gap-behind m a h = rw (le-ltb a m h)
+  module _ (small : m < numbers) where
+    pub gap-none : gap m nothing ≡ coverable (m + 1)
+    unfolding gap ahead
+    gap-none = rw (lt-ltb m numbers small)
 
-pub gap-ahead : (m a : ℕ) → a < m → gap m (upTo a) ≡ coverable (m - a)
-unfolding gap
-gap-ahead m a h = rw (lt-ltb a m h)
+    pub gap-behind : (a : ℕ) → m ≤ a → gap m (upTo a) ≡ refused 14
+    unfolding gap ahead
+    gap-behind a h = rw (lt-ltb m numbers small, le-ltb a m h)
+
+    pub gap-ahead : (a : ℕ) → a < m → gap m (upTo a) ≡ coverable (m - a)
+    unfolding gap ahead
+    gap-ahead a h = rw (lt-ltb m numbers small, lt-ltb a m h)
 
 -- a gap is at least one, and four bytes cover it
 coverable-sized : (h : ℕ) {g : ℕ} → 0 < h → given g ≡ coverable h → (0 < g) × (g < half 4)
@@ -41,27 +47,27 @@ coverable-sized h some is =
     let same = given-same (guard .1) in
     (omega arith, omega (arith, ltb-true h (half 4) (guard .0)))
 
-pub gap-sized : (m : ℕ) (a : Acknowledged) {g : ℕ} → given g ≡ gap m a → (0 < g) × (g < half 4)
-unfolding gap
-gap-sized m nothing is = coverable-sized (m + 1) (omega arith) is
-gap-sized m (upTo a) is =
+ahead-sized : (m : ℕ) (a : Acknowledged) {g : ℕ} → given g ≡ ahead m a → (0 < g) × (g < half 4)
+unfolding ahead
+ahead-sized m nothing is = coverable-sized (m + 1) (omega arith) is
+ahead-sized m (upTo a) is =
     let guard = passed 14 (ltb a m) (coverable (m - a)) (sym is) in
     let above = ltb-true a m (guard .0) in
     coverable-sized (m - a) (omega arith) (sym (guard .1))
 
+pub gap-sized : (m : ℕ) (a : Acknowledged) {g : ℕ} → given g ≡ gap m a → (0 < g) × (g < half 4)
+unfolding gap
+gap-sized m a is = ahead-sized m a (sym (passed 10 (ltb m numbers) (ahead m a) (sym is) .1))
+
 -- ---- the smallest length
 module _ (m : ℕ) (a : Acknowledged) where
-  pub smallest-range : numbers ≤ m → smallestLength m a ≡ refused 10
+  pub smallest-refused : {n : ℕ} → refused n ≡ gap m a → smallestLength m a ≡ refused n
   unfolding smallestLength
-  smallest-range h = rw (le-ltb m numbers h)
+  smallest-refused e = rw (← e)
 
-  pub smallest-refused : {n : ℕ} → m < numbers → refused n ≡ gap m a → smallestLength m a ≡ refused n
+  pub smallest-given : {g : ℕ} → given g ≡ gap m a → smallestLength m a ≡ given ((bitLength g + 1 + 7) / 8)
   unfolding smallestLength
-  smallest-refused h e = rw (lt-ltb m numbers h, ← e)
-
-  pub smallest-given : {g : ℕ} → m < numbers → given g ≡ gap m a → smallestLength m a ≡ given ((bitLength g + 1 + 7) / 8)
-  unfolding smallestLength
-  smallest-given h e = rw (lt-ltb m numbers h, ← e)
+  smallest-given e = rw (← e)
 
 no-halvings : (k : ℕ) → halvings k 0 ≡ 0
 unfolding halvings
@@ -76,11 +82,11 @@ bits zero (suc k) n le low high =
     let one : n ≡ 1 = omega arith in
     rw (one, no-halvings k)
 bits (suc j) zero n le low high = omega (arith, two-pow-succ j)
-bits (suc j) (suc k) n le low high =
+bits (suc j) (suc k) zero le low high = omega (arith, pow-pos (suc j))
+bits (suc j) (suc k) (suc n) le low high =
     let p = two-pow-succ j in
     let q = two-pow-succ (suc j) in
-    let some : n ≡ 0 → ⊥ = λ e. omega arith in
-    rw (ne-eqb n 0 some, bits j k (n / 2) (omega arith) (omega arith) (omega arith)) (omega arith)
+    rw (bits j k (suc n / 2) (omega arith) (omega arith) (omega arith)) (omega arith)
 
 pub bit-length : (g : ℕ) → 0 < g → g < 2 ^ 64 → bitLength g ≡ 64 - leadingZeros 64 g
 bit-length g some small =
@@ -108,27 +114,23 @@ module _ (g n : ℕ) (some : 0 < g) (small : g < 2 ^ 64) (positive : 1 ≤ n) wh
 
 -- ---- the short number
 module _ (m : ℕ) (a : Acknowledged) (n : ℕ) where
-  pub shorten-range : numbers ≤ m → shortened m a n ≡ refused 10
+  pub shorten-refused : {k : ℕ} → refused k ≡ gap m a → shortened m a n ≡ refused k
   unfolding shortened
-  shorten-range h = rw (le-ltb m numbers h)
+  shorten-refused e = rw (← e)
 
-  pub shorten-refused : {k : ℕ} → m < numbers → refused k ≡ gap m a → shortened m a n ≡ refused k
-  unfolding shortened
-  shorten-refused h e = rw (lt-ltb m numbers h, ← e)
-
-  module _ {g : ℕ} (small : m < numbers) (is : given g ≡ gap m a) where
+  module _ {g : ℕ} (is : given g ≡ gap m a) where
     pub shorten-empty : n < 1 → shortened m a n ≡ refused 12
     unfolding shortened
-    shorten-empty h = rw (lt-ltb m numbers small, ← is, lt-leb 1 n h)
+    shorten-empty h = rw (← is, lt-leb 1 n h)
 
     pub shorten-long : 1 ≤ n → 4 < n → shortened m a n ≡ refused 12
     unfolding shortened
-    shorten-long p h = rw (lt-ltb m numbers small, ← is, le-leb 1 n p, lt-leb n 4 h)
+    shorten-long p h = rw (← is, le-leb 1 n p, lt-leb n 4 h)
 
     pub shorten-wide : 1 ≤ n → n ≤ 4 → half n ≤ g → shortened m a n ≡ refused 12
     unfolding shortened
-    shorten-wide p q h = rw (lt-ltb m numbers small, ← is, le-leb 1 n p, le-leb n 4 q, le-ltb g (half n) h)
+    shorten-wide p q h = rw (← is, le-leb 1 n p, le-leb n 4 q, le-ltb g (half n) h)
 
     pub shorten-given : 1 ≤ n → n ≤ 4 → g < half n → shortened m a n ≡ given (m % window n)
     unfolding shortened
-    shorten-given p q h = rw (lt-ltb m numbers small, ← is, le-leb 1 n p, le-leb n 4 q, lt-ltb g (half n) h)
+    shorten-given p q h = rw (← is, le-leb 1 n p, le-leb n 4 q, lt-ltb g (half n) h)

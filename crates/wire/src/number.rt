@@ -59,9 +59,11 @@ fn covered(distance: u64) -> Gap
 
 // How far the number stands above the greatest acknowledged, or the number plus one if none is.
 fn gap_above(number: FullPn, acknowledged: Acknowledged) -> Gap
-    requires { ⌜ number .0 < numbers ⌝ }
     ensures { λ r. ⌜ gapAnswer r ≡ gap (number .0) (acknowledgedOf acknowledged) ⌝ }
 {
+    if NUMBERS <= number.0 {
+        return Gap::Refused(refusal::RANGE);
+    }
     match acknowledged {
         Acknowledged::Nothing => covered(number.0 + 1),
         Acknowledged::UpTo(greatest) => {
@@ -77,9 +79,6 @@ fn gap_above(number: FullPn, acknowledged: Acknowledged) -> Gap
 pub fn smallest_length(number: FullPn, acknowledged: Acknowledged) -> Smallest
     ensures { λ r. ⌜ SmallestLength number acknowledged r ⌝ }
 {
-    if NUMBERS <= number.0 {
-        return Smallest::Refused(refusal::RANGE);
-    }
     match gap_above(number, acknowledged) {
         Gap::Refused(why) => Smallest::Refused(why),
         Gap::Of(distance) => {
@@ -93,9 +92,6 @@ pub fn smallest_length(number: FullPn, acknowledged: Acknowledged) -> Smallest
 pub fn shorten(number: FullPn, acknowledged: Acknowledged, length: usize) -> Shortened
     ensures { λ r. ⌜ Shorten number acknowledged length r ⌝ }
 {
-    if NUMBERS <= number.0 {
-        return Shortened::Refused(refusal::RANGE);
-    }
     match gap_above(number, acknowledged) {
         Gap::Refused(why) => Shortened::Refused(why),
         Gap::Of(distance) => {
@@ -121,15 +117,11 @@ fn decode(expected: u64, truncated: u64, length: usize) -> u64
     let window = octets::power(8 * length);
     let half = octets::power(8 * length - 1);
     let candidate = expected / window * window + truncated;
-    if candidate + half <= expected {
-        if candidate + window < NUMBERS {
-            return candidate + window;
-        }
+    if candidate + half <= expected && candidate + window < NUMBERS {
+        return candidate + window;
     }
-    if expected + half < candidate {
-        if window <= candidate {
-            return candidate - window;
-        }
+    if expected + half < candidate && window <= candidate {
+        return candidate - window;
     }
     candidate
 }

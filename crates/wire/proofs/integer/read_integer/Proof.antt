@@ -1,5 +1,5 @@
 -- The first byte says how many bytes there are: one, two, four or eight.
-use Prim.Native.Nat.{_-_, _*_}
+use Prim.Native.Nat.{_-_}
 use mathlib.Core.Path.{sym}
 use borrow.Author.Needs.{needs}
 use native.Mathlib.Omega.{arith}
@@ -42,7 +42,7 @@ power-requires-2 : tie.Need-power-requires-2
 power-requires-2 c κs = omega (arith, counted _ (c .before .before .before .before .shared-slice-known2 .given 0 .fits) (c .before .before .before .power .ensures))
 
 rem-t13 : tie.Need-rem-t13
-rem-t13 c = omega (arith, c .power2 .ensures, pow-pos (8 * c .before .before .before .before .power .result - 2))
+rem-t13 c = rw (c .power2 .ensures) (pow-pos _)
 
 returns-3 : tie.Need-returns-3
 returns-3 c =

@@ -3,9 +3,12 @@ use Prim.Native.Nat.{_-_}
 use mathlib.Core.Path.{sym, _∙_}
 use borrow.Author.Needs.{needs}
 use native.Mathlib.Omega.{arith}
-use Rattle.wire.proofs.Numbers.{gap-none, gap-behind, gap-ahead}
+use Rattle.wire.proofs.Numbers.{gap-range, gap-none, gap-behind, gap-ahead}
 use Rattle.wire.proofs.number.gap_above.Statement.{statement}
 use Rattle.wire.proofs.number.gap_above.Tie as tie
+
+returns : tie.Need-returns
+returns c = sym (gap-range _ _ (omega arith))
 
 enum-told : tie.Need-enum-told
 enum-told c = search needs
@@ -19,10 +22,10 @@ covered-requires c κs = search needs
 enum-known-acknowledged : tie.Need-enum-known-acknowledged
 enum-known-acknowledged c = search needs
 
-returns : tie.Need-returns
-returns c =
+returns-2 : tie.Need-returns-2
+returns-2 c =
     let is = c .before .before .before .before .acknowledged .given .1 in
-    rw is (sym (gap-behind _ _ (omega arith)))
+    rw is (sym (gap-behind _ (omega arith) _ (omega arith)))
 
 sub-covered : tie.Need-sub-covered
 sub-covered c = search needs
@@ -30,26 +33,27 @@ sub-covered c = search needs
 covered-requires-2 : tie.Need-covered-requires-2
 covered-requires-2 c κs = search needs
 
-returns-2 : tie.Need-returns-2
-returns-2 c =
-    let is = c .before .before .enum-told .given .1 in
-    rw is (c .covered .ensures ∙ sym (gap-none _))
-
 returns-3 : tie.Need-returns-3
 returns-3 c =
+    let is = c .before .before .enum-told .given .1 in
+    rw is (c .covered .ensures ∙ sym (gap-none _ (omega arith)))
+
+returns-4 : tie.Need-returns-4
+returns-4 c =
     let is = c .before .before .before .before .before .before .before .acknowledged .given .1 in
-    rw is (c .covered2 .ensures ∙ sym (gap-ahead _ _ (omega arith)))
+    rw is (c .covered2 .ensures ∙ sym (gap-ahead _ (omega arith) _ (omega arith)))
 
 pub gap-above-spec : {M : Type 1} → statement M
 gap-above-spec =
     tie.close
     (tie.spec
+    returns
     enum-told
     add-covered
     covered-requires
     enum-known-acknowledged
-    returns
+    returns-2
     sub-covered
     covered-requires-2
-    returns-2
-    returns-3)
+    returns-3
+    returns-4)
