@@ -1,5 +1,6 @@
 -- Bytes as lists: big-endian numbers, parts, exclusive or, and what a lent buffer holds afterwards.
 use Prim.Native.Nat.{ℕ, zero, suc, _+_, _*_, _/_, _%_, _^_, _<_}
+use mathlib.Core.Path.{_≡_}
 use mathlib.Core.List.{List, [], _∷_, _++_, foldl}
 use lib.Bits.{bitXor}
 use lib.ListN.{length, getD, take, drop}
@@ -35,6 +36,11 @@ laid d at s = take at d ++ s ++ drop (at + length s) d
 -- a buffer with s at its start, and the rest as it was
 abbrev pub begun : List ℕ → List ℕ → List ℕ
 begun s d = s ++ drop (length s) d
+
+-- what was written at a buffer's start, and where it ends
+pub record Begins (s before after : List ℕ) (end : ℕ) : Type 0 where
+  pub holds : after ≡ begun s before
+  pub ends : end ≡ length s
 
 -- what a lent buffer holds afterwards: what is given at its start and the rest as it was; refused, all as it was
 abbrev pub placed : Outcome (List ℕ) → List ℕ → List ℕ

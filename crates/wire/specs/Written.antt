@@ -1,5 +1,5 @@
 -- The long header, written: RFC 9000 sections 16, 17.2 and 17.2.2, as document 01 has sealing write it.
-use Prim.Native.Nat.{ℕ, _+_, _-_, _*_, _^_}
+use Prim.Native.Nat.{ℕ, _+_, _-_, _*_, _^_, _≤_, _<_}
 use mathlib.Core.List.{List, _∷_, _++_}
 use mathlib.Core.Bool.{cond}
 use lib.Dec.{ltb}
@@ -26,6 +26,18 @@ unfoldable pub longFields : (v : ℕ) (destination source : List ℕ) → List �
 longFields v destination source = bytes 4 v ++ withLength destination ++ withLength source
 
 -- ---- section 17.2.2: the Initial packet, before it is protected
+-- the fields between the first byte and the packet number: the token's length in its smallest form, Length always in two bytes
+unfoldable pub initialFields : (v : ℕ) (destination source token : List ℕ) (counted : ℕ) → List ℕ
+initialFields v destination source token counted = longFields v destination source ++ smallest (length token) ++ token ++ two counted
+
+-- each of them can be written, and a buffer has room for all
+pub record InitialFits (destination source token : List ℕ) (counted : ℕ) (buffer : List ℕ) : Type 0 where
+  pub short-destination : length destination ≤ 255
+  pub short-source : length source ≤ 255
+  pub short-token : length token < 2 ^ 30
+  pub short-rest : counted < 2 ^ 14
+  pub room : 9 + length destination + length source + length (smallest (length token)) + length token ≤ length buffer
+
 pub record Plain : Type 0 where
   pub destination : List ℕ
   pub source : List ℕ
@@ -42,9 +54,8 @@ firstByte v p = longFirst (version v .initialType) (p .numberLength - 1)
 abbrev pub lengthOf : Plain → ℕ
 lengthOf p = p .numberLength + length (p .payload) + 16
 
--- the fields between the first byte and the packet number: the token's length in its smallest form, Length always in two bytes
-unfoldable pub fields : (v : ℕ) → Plain → List ℕ
-fields v p = longFields v (p .destination) (p .source) ++ smallest (length (p .token)) ++ p .token ++ two (lengthOf p)
+abbrev pub fields : (v : ℕ) → Plain → List ℕ
+fields v p = initialFields v (p .destination) (p .source) (p .token) (lengthOf p)
 
 -- all before the packet number
 abbrev pub front : (v : ℕ) → Plain → List ℕ

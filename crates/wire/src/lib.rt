@@ -1,3 +1,4 @@
 // RFC 9000 sections 16 and 17: what stands on the wire.
 pub mod integer;
 pub mod number;
+pub mod writing;
