@@ -1,0 +1,3 @@
+pub mod Suite
+pub mod Protection
+pub mod Packet
