@@ -1,3 +1,4 @@
 pub mod Suite
 pub mod Protection
 pub mod Packet
+pub mod KeyRecord
