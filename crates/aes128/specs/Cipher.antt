@@ -3,6 +3,7 @@ use Prim.Native.Nat.{ℕ, zero, suc, _+_, _*_, _/_, _%_, _^_, _<_}
 use mathlib.Core.Path.{_≡_}
 use mathlib.Core.List.{List, [], _∷_, _++_}
 use lib.ListN.{getD}
+use Rattle.octets.specs.Octets.{part}
 use Rattle.aes128.specs.Field.{_⊕_, _•_, inverse}
 
 -- ---- section 5.1.1: SubBytes
@@ -59,20 +60,28 @@ subBytes s = state (λ r c. sBox (at s r c))
 abbrev pub shiftRows : State → State
 shiftRows s = state (λ r c. at s r ((c + r) % 4))
 
--- (5.8): each column times the polynomial {03}x^3 + {01}x^2 + {01}x + {02}
-abbrev pub mixColumns : State → State
-mixColumns s = state (λ r c. 2 • at s r c ⊕ 3 • at s ((r + 1) % 4) c ⊕ at s ((r + 2) % 4) c ⊕ at s ((r + 3) % 4) c)
+-- (5.8): a byte of a column times the polynomial {03}x^3 + {01}x^2 + {01}x + {02}, from that byte and the three below it
+unfoldable pub mixed : ℕ → ℕ → ℕ → ℕ → ℕ
+mixed a b c d = 2 • a ⊕ 3 • b ⊕ c ⊕ d
 
--- (5.9): the round key's words are added to the columns
-abbrev pub addRoundKey : State → List ℕ → ℕ → State
-addRoundKey s w round = state (λ r c. at s r c ⊕ getD w (16 * round + 4 * c + r) 0)
+abbrev pub mixColumns : State → State
+mixColumns s = state (λ r c. mixed (at s r c) (at s ((r + 1) % 4) c) (at s ((r + 2) % 4) c) (at s ((r + 3) % 4) c))
+
+-- (5.9): a round key of 16 bytes is added, each of its words to a column
+abbrev pub addRoundKey : State → List ℕ → State
+addRoundKey s k = state (λ r c. at s r c ⊕ getD k (r + 4 * c) 0)
 
 -- ---- section 5.1: Cipher
+-- the round key of a round, in the key schedule w
+abbrev pub roundKey : List ℕ → ℕ → List ℕ
+roundKey w round = part w (16 * round) 16
+
 -- rounds 1 to n
 unfoldable pub rounds : List ℕ → ℕ → State → State
 rounds w zero s = s
-rounds w (suc n) s = addRoundKey (mixColumns (shiftRows (subBytes (rounds w n s)))) w (suc n)
+rounds w (suc n) s = addRoundKey (mixColumns (shiftRows (subBytes (rounds w n s)))) (roundKey w (suc n))
 
--- algorithm 1, with any list of round keys
+-- algorithm 1, with any list as the key schedule
 unfoldable pub encrypted : List ℕ → List ℕ → List ℕ
-encrypted w b = output (addRoundKey (shiftRows (subBytes (rounds w 9 (addRoundKey (input b) w 0)))) w 10)
+encrypted w b =
+    output (addRoundKey (shiftRows (subBytes (rounds w 9 (addRoundKey (input b) (roundKey w 0))))) (roundKey w 10))

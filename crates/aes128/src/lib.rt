@@ -3,6 +3,7 @@ pub mod s_box;
 mod schedule;
 mod state;
 
+use schedule::round_key;
 use state::add_round_key;
 use state::mix_columns;
 use state::shift_rows;
@@ -16,17 +17,16 @@ pub fn encrypt_with(table: &[u8; 256], schedule: &[u8; 176], block: &[u8; 16]) -
     requires { ⌜ Box (now table) ⌝ }
     ensures { λ r. ⌜ r ≡ encrypted (now (schedule .entry)) (now (block .entry)) ⌝ }
 {
-    let mut s = add_round_key(state::input(block), schedule, 0);
+    let w = &schedule[..];
+    let mut s = add_round_key(state::input(block), round_key(w, 0));
     let mut round = 1;
     while round < 10 {
-        s = add_round_key(
-            mix_columns(shift_rows(sub_bytes(table, s))),
-            schedule,
-            round,
-        );
+        let mixed = mix_columns(shift_rows(sub_bytes(table, s)));
+        s = add_round_key(mixed, round_key(w, round));
         round += 1;
     }
-    state::output(add_round_key(shift_rows(sub_bytes(table, s)), schedule, 10))
+    let last = shift_rows(sub_bytes(table, s));
+    state::output(add_round_key(last, round_key(w, 10)))
 }
 
 // Section 5.1: Cipher.

@@ -1,10 +1,9 @@
 // The state, four rows of four bytes, and the steps of a round (FIPS 197 sections 3.4 and 5.1.1 to 5.1.4).
-use super::s_box::substitute;
+use super::s_box::sub_word;
 ghost use mathlib.Core.Path.{_≡_};
-ghost use Prim.Native.Nat.{_+_, _*_, _≤_, _<_};
-ghost use lib.ListN.{getD};
-ghost use Rattle.aes128.specs.Field.{_⊕_, _•_, xTimes};
-ghost use Rattle.aes128.specs.Cipher.{Box, sBox, row, input, output, subBytes, shiftRows, mixColumns, addRoundKey};
+ghost use lib.ListN.{length, getD};
+ghost use Rattle.aes128.specs.Field.{xTimes};
+ghost use Rattle.aes128.specs.Cipher.{Box, row, input, output, subBytes, shiftRows, mixed, mixColumns, addRoundKey};
 
 // Section 3.4: a block as a state, column by column.
 pub fn input(block: &[u8; 16]) -> [[u8; 4]; 4]
@@ -46,19 +45,6 @@ pub fn output(s: [[u8; 4]; 4]) -> [u8; 16]
     ]
 }
 
-// A row, substituted.
-fn sub_row(table: &[u8; 256], a: [u8; 4]) -> [u8; 4]
-    requires { ⌜ Box (now table) ⌝ }
-    ensures { λ r. ⌜ r ≡ row (λ i. sBox (getD a i 0)) ⌝ }
-{
-    [
-        substitute(table, a[0]),
-        substitute(table, a[1]),
-        substitute(table, a[2]),
-        substitute(table, a[3]),
-    ]
-}
-
 // Section 5.1.1: SubBytes.
 pub fn sub_bytes(table: &[u8; 256], s: [[u8; 4]; 4]) -> [[u8; 4]; 4]
     requires { ⌜ Box (now table) ⌝ }
@@ -69,10 +55,10 @@ pub fn sub_bytes(table: &[u8; 256], s: [[u8; 4]; 4]) -> [[u8; 4]; 4]
     let c = s[2];
     let d = s[3];
     [
-        sub_row(table, a),
-        sub_row(table, b),
-        sub_row(table, c),
-        sub_row(table, d),
+        sub_word(table, a),
+        sub_word(table, b),
+        sub_word(table, c),
+        sub_word(table, d),
     ]
 }
 
@@ -101,14 +87,14 @@ fn x_times(b: u8) -> u8
 
 // Section 5.1.3, (5.8): one byte of a mixed column.
 fn mix(a: u8, b: u8, c: u8, d: u8) -> u8
-    ensures { λ r. ⌜ r ≡ 2 • a ⊕ 3 • b ⊕ c ⊕ d ⌝ }
+    ensures { λ r. ⌜ r ≡ mixed a b c d ⌝ }
 {
-    x_times(a) ^ (x_times(b) ^ b) ^ c ^ d
+    x_times(a) ^ (b ^ x_times(b)) ^ c ^ d
 }
 
 // One row of the mixed columns.
 fn mix_row(a: [u8; 4], b: [u8; 4], c: [u8; 4], d: [u8; 4]) -> [u8; 4]
-    ensures { λ r. ⌜ r ≡ row (λ i. 2 • getD a i 0 ⊕ 3 • getD b i 0 ⊕ getD c i 0 ⊕ getD d i 0) ⌝ }
+    ensures { λ r. ⌜ r ≡ row (λ i. mixed (getD a i 0) (getD b i 0) (getD c i 0) (getD d i 0)) ⌝ }
 {
     [
         mix(a[0], b[0], c[0], d[0]),
@@ -134,33 +120,19 @@ pub fn mix_columns(s: [[u8; 4]; 4]) -> [[u8; 4]; 4]
     ]
 }
 
-// A row with every fourth byte of the round keys, from `at` on, added.
-fn add_row(a: [u8; 4], schedule: &[u8; 176], at: usize) -> [u8; 4]
-    requires { ⌜ at < 164 ⌝ }
-    ensures { λ r. ⌜ r ≡ row (λ i. getD a i 0 ⊕ getD (now (schedule .entry)) (at + 4 * i) 0) ⌝ }
-{
-    [
-        a[0] ^ schedule[at],
-        a[1] ^ schedule[at + 4],
-        a[2] ^ schedule[at + 8],
-        a[3] ^ schedule[at + 12],
-    ]
-}
-
 // Section 5.1.4: AddRoundKey.
-pub fn add_round_key(s: [[u8; 4]; 4], schedule: &[u8; 176], round: usize) -> [[u8; 4]; 4]
-    requires { ⌜ round ≤ 10 ⌝ }
-    ensures { λ r. ⌜ r ≡ addRoundKey s (now (schedule .entry)) round ⌝ }
+pub fn add_round_key(s: [[u8; 4]; 4], key: &[u8]) -> [[u8; 4]; 4]
+    requires { ⌜ length (now key) ≡ 16 ⌝ }
+    ensures { λ r. ⌜ r ≡ addRoundKey s (now (key .entry)) ⌝ }
 {
     let a = s[0];
     let b = s[1];
     let c = s[2];
     let d = s[3];
-    let at = 16 * round;
     [
-        add_row(a, schedule, at),
-        add_row(b, schedule, at + 1),
-        add_row(c, schedule, at + 2),
-        add_row(d, schedule, at + 3),
+        [a[0] ^ key[0], a[1] ^ key[4], a[2] ^ key[8], a[3] ^ key[12]],
+        [b[0] ^ key[1], b[1] ^ key[5], b[2] ^ key[9], b[3] ^ key[13]],
+        [c[0] ^ key[2], c[1] ^ key[6], c[2] ^ key[10], c[3] ^ key[14]],
+        [d[0] ^ key[3], d[1] ^ key[7], d[2] ^ key[11], d[3] ^ key[15]],
     ]
 }
