@@ -15,12 +15,13 @@ unfoldable pub spelled : ℕ → (ℕ → ℕ) → ℕ
 spelled zero f = 0
 spelled (suc n) f = spelled n f + f n * 2 ^ n
 
--- (5.2): the affine step, bit by bit, with the constant {63}
-abbrev pub affine : ℕ → ℕ
-affine b = spelled 8 (λ i. bit b i ⊕ bit b ((i + 4) % 8) ⊕ bit b ((i + 5) % 8) ⊕ bit b ((i + 6) % 8) ⊕ bit b ((i + 7) % 8) ⊕ bit 0x63 i)
+-- (5.2): a bit of the affine step, with the constant {63}
+abbrev pub affineBit : ℕ → ℕ → ℕ
+affineBit b i = bit b i ⊕ bit b ((i + 4) % 8) ⊕ bit b ((i + 5) % 8) ⊕ bit b ((i + 6) % 8) ⊕ bit b ((i + 7) % 8) ⊕ bit 0x63 i
 
+-- (5.3): the inverse in the field, and then the affine step
 unfoldable pub sBox : ℕ → ℕ
-sBox b = affine (inverse b)
+sBox b = spelled 8 (affineBit (inverse b))
 
 -- a table of the S-box's bytes
 pub record Box (table : List ℕ) : Type 0 where
