@@ -1,5 +1,5 @@
 -- The long header, read: RFC 9000 sections 17.2 and 17.2.2, with document 01's order of refusals.
-use Prim.Native.Nat.{ℕ, _+_, _*_, _/_, _%_}
+use Prim.Native.Nat.{ℕ, _+_, _/_, _%_}
 use mathlib.Core.List.{List}
 use mathlib.Core.Bool.{Bool, _&&_}
 use lib.Dec.{leb, eqb}
@@ -47,6 +47,13 @@ pub record Long : Type 0 where
   pub destination : Place
   pub source : Place
 
+-- the two IDs, behind the version
+unfoldable pub ids : (v : ℕ) → List ℕ → Outcome Long
+ids v d = do
+  destination ← idAt d 5
+  source ← idAt d (behind destination)
+  given (record { version = v; destination = destination; source = source })
+
 -- form and fixed bit, the version, the type among that version's, the two IDs
 unfoldable pub long : (takes : ℕ → Bool) → (type : Version → ℕ) → List ℕ → Outcome Long
 long takes type d = do
@@ -56,9 +63,7 @@ long takes type d = do
   let v = number (part d 1 4)
   unless 4 (known v && takes v)
   unless 6 (eqb (getD d 0 0 / 16 % 4) (type (version v)))
-  destination ← idAt d 5
-  source ← idAt d (behind destination)
-  given (record { version = v; destination = destination; source = source })
+  ids v d
 
 -- ---- section 17.2.2: the Initial packet
 pub record Header : Type 0 where
@@ -70,7 +75,7 @@ pub record Header : Type 0 where
   pub numberAt : ℕ
 
 -- an integer from a place on: its value, and where it ends
-abbrev pub integerAt : List ℕ → ℕ → Outcome Place
+unfoldable pub integerAt : List ℕ → ℕ → Outcome Place
 integerAt d at = do
   i ← integer (drop at d)
   given (record { at = at + i .taken; len = i .value })
