@@ -10,132 +10,130 @@ use Rattle.octets.specs.Outcome.{Outcome, refused, given}
 use Rattle.octets.specs.Octets.{number, part}
 use Rattle.octets.proofs.Outcome.{passed, stepped, given-same, both}
 use Rattle.wire.specs.Versions.{Version, known, version}
-use Rattle.wire.specs.Header.{Place, Long, Header, behind, limit, leastLength, idAt, fieldAt, restAt, ids, long, header}
+use Rattle.wire.specs.Header.{Place, Long, Header, behind, limit, leastLength, idAt, fieldAt, restAt, versionOf, judged, long, header}
 use Rattle.wire.specs.HeaderAnswers.{handed}
 use Rattle.wire.proofs.Fields.{Within, id-within, field-within, rest-within}
 
--- ---- the two IDs
-module _ (v : ℕ) (d : List ℕ) where
-  pub ids-no-destination : {n : ℕ} → refused n ≡ idAt d 5 → ids v d ≡ refused n
-  unfolding ids
-  ids-no-destination e = rw (← e)
+-- ---- the version
+module _ (d : List ℕ) where
+  pub version-empty : length d < 1 → versionOf d ≡ refused 1
+  unfolding versionOf
+  version-empty h = rw (lt-leb 1 (length d) h)
 
-  module _ {p : Place} (one : given p ≡ idAt d 5) where
-    pub ids-no-source : {n : ℕ} → refused n ≡ idAt d (behind p) → ids v d ≡ refused n
-    unfolding ids
-    ids-no-source e = rw (← one, ← e)
+  module _ (some : 1 ≤ length d) where
+    pub version-large : limit < length d → versionOf d ≡ refused 1
+    unfolding versionOf
+    version-large h = rw (le-leb 1 (length d) some, lt-leb (length d) limit h)
 
-    pub ids-found : {q : Place} → given q ≡ idAt d (behind p) → ids v d ≡ given (record { version = v; destination = p; source = q })
-    unfolding ids
-    ids-found e = rw (← one, ← e)
+    module _ (fits : length d ≤ limit) where
+      pub version-form : getD d 0 0 < 0xc0 → versionOf d ≡ refused 2
+      unfolding versionOf
+      version-form h = rw (le-leb 1 (length d) some, le-leb (length d) limit fits, lt-leb 0xc0 (getD d 0 0) h)
+
+      module _ (formed : 0xc0 ≤ getD d 0 0) where
+        pub version-short : length d < 5 → versionOf d ≡ refused 3
+        unfolding versionOf
+        version-short h = rw (le-leb 1 (length d) some, le-leb (length d) limit fits, le-leb 0xc0 (getD d 0 0) formed, lt-leb 5 (length d) h)
+
+        pub version-found : 5 ≤ length d → versionOf d ≡ given (number (part d 1 4))
+        unfolding versionOf
+        version-found h = rw (le-leb 1 (length d) some, le-leb (length d) limit fits, le-leb 0xc0 (getD d 0 0) formed, le-leb 5 (length d) h)
+
+-- a datagram whose version was read
+pub record VersionThere (d : List ℕ) : Type 0 where
+  pub fits : length d ≤ limit
+  pub formed : 0xc0 ≤ getD d 0 0
+  pub whole : 5 ≤ length d
+
+pub version-there : (d : List ℕ) {v : ℕ} → given v ≡ versionOf d → VersionThere d
+unfolding versionOf
+version-there d is =
+    let size = passed 1 (leb 1 (length d) && leb (length d) limit) _ (sym is) in
+    let form = passed 2 (leb 0xc0 (getD d 0 0)) _ (size .1) in
+    let all = passed 3 (leb 5 (length d)) _ (form .1) in
+    record {
+      fits = leb-true (length d) limit (both (leb 1 (length d)) (leb (length d) limit) (size .0) .1);
+      formed = leb-true 0xc0 (getD d 0 0) (form .0);
+      whole = leb-true 5 (length d) (all .0);
+    }
+
+-- ---- the version and the type, judged
+module _ (takes : ℕ → Bool) (type : Version → ℕ) (d : List ℕ) where
+  pub judged-none : {n : ℕ} → refused n ≡ versionOf d → judged takes type d ≡ refused n
+  unfolding judged
+  judged-none e = rw (← e)
+
+  module _ {v : ℕ} (is : given v ≡ versionOf d) where
+    pub judged-unknown : known v ≡ false → judged takes type d ≡ refused 4
+    unfolding judged
+    judged-unknown h = rw (← is, h)
+
+    module _ (ours : known v ≡ true) where
+      pub judged-other : takes v ≡ false → judged takes type d ≡ refused 4
+      unfolding judged
+      judged-other h = rw (← is, ours, h)
+
+      module _ (taken : takes v ≡ true) where
+        pub judged-type : (getD d 0 0 / 16 % 4 ≡ type (version v) → ⊥) → judged takes type d ≡ refused 6
+        unfolding judged
+        judged-type h = rw (← is, ours, taken, ne-eqb (getD d 0 0 / 16 % 4) (type (version v)) h)
+
+        pub judged-right : getD d 0 0 / 16 % 4 ≡ type (version v) → judged takes type d ≡ given v
+        unfolding judged
+        judged-right h = rw (← is, ours, taken, eq-eqb (getD d 0 0 / 16 % 4) (type (version v)) h)
+
+-- a version that was judged right
+pub record Judged (takes : ℕ → Bool) (d : List ℕ) (v : ℕ) : Type 0 where
+  pub there : VersionThere d
+  pub ours : known v ≡ true
+  pub taken : takes v ≡ true
+
+pub judged-there : (takes : ℕ → Bool) (type : Version → ℕ) (d : List ℕ) {v : ℕ} → given v ≡ judged takes type d → Judged takes d v
+unfolding judged
+judged-there takes type d is =
+    let found = stepped (versionOf d) _ (sym is) in
+    let right = passed 4 (known (found .0) && takes (found .0)) _ (found .2) in
+    let typed = passed 6 (eqb (getD d 0 0 / 16 % 4) (type (version (found .0)))) _ (right .1) in
+    let two = both (known (found .0)) (takes (found .0)) (right .0) in
+    rw (← (given-same (typed .1))) (record { there = version-there d (sym (found .1)); ours = two .0; taken = two .1 })
 
 -- ---- what every long header begins with
 module _ (takes : ℕ → Bool) (type : Version → ℕ) (d : List ℕ) where
-  pub long-empty : length d < 1 → long takes type d ≡ refused 1
+  pub long-no-version : {n : ℕ} → refused n ≡ judged takes type d → long takes type d ≡ refused n
   unfolding long
-  long-empty h = rw (lt-leb 1 (length d) h)
+  long-no-version e = rw (← e)
 
-  module _ (some : 1 ≤ length d) where
-    pub long-large : limit < length d → long takes type d ≡ refused 1
+  module _ {v : ℕ} (is : given v ≡ judged takes type d) where
+    pub long-no-destination : {n : ℕ} → refused n ≡ idAt d 5 → long takes type d ≡ refused n
     unfolding long
-    long-large h = rw (le-leb 1 (length d) some, lt-leb (length d) limit h)
+    long-no-destination e = rw (← is, ← e)
 
-    module _ (fits : length d ≤ limit) where
-      pub long-form : getD d 0 0 < 0xc0 → long takes type d ≡ refused 2
+    module _ {p : Place} (one : given p ≡ idAt d 5) where
+      pub long-no-source : {n : ℕ} → refused n ≡ idAt d (behind p) → long takes type d ≡ refused n
       unfolding long
-      long-form h = rw (le-leb 1 (length d) some, le-leb (length d) limit fits, lt-leb 0xc0 (getD d 0 0) h)
+      long-no-source e = rw (← is, ← one, ← e)
 
-      module _ (formed : 0xc0 ≤ getD d 0 0) where
-        pub long-short : length d < 5 → long takes type d ≡ refused 3
-        unfolding long
-        long-short h =
-            rw (le-leb 1 (length d) some, le-leb (length d) limit fits, le-leb 0xc0 (getD d 0 0) formed, lt-leb 5 (length d) h)
+      pub long-found : {q : Place} → given q ≡ idAt d (behind p) → long takes type d ≡ given (record { version = v; destination = p; source = q })
+      unfolding long
+      long-found e = rw (← is, ← one, ← e)
 
-        -- the version stands there whole
-        module _ (whole : 5 ≤ length d) {v : ℕ} (reads : number (part d 1 4) ≡ v) where
-          pub long-unknown : known v ≡ false → long takes type d ≡ refused 4
-          unfolding long
-          long-unknown h =
-              rw (le-leb 1 (length d) some, le-leb (length d) limit fits, le-leb 0xc0 (getD d 0 0) formed, le-leb 5 (length d) whole, reads, h)
-
-          pub long-other : known v ≡ true → takes v ≡ false → long takes type d ≡ refused 4
-          unfolding long
-          long-other ours h =
-              rw (le-leb 1 (length d) some, le-leb (length d) limit fits, le-leb 0xc0 (getD d 0 0) formed, le-leb 5 (length d) whole, reads, ours, h)
-
-          module _ (ours : known v ≡ true) (taken : takes v ≡ true) where
-            pub long-type : (getD d 0 0 / 16 % 4 ≡ type (version v) → ⊥) → long takes type d ≡ refused 6
-            unfolding long
-            long-type h =
-                rw (
-                  le-leb 1 (length d) some,
-                  le-leb (length d) limit fits,
-                  le-leb 0xc0 (getD d 0 0) formed,
-                  le-leb 5 (length d) whole,
-                  reads,
-                  ours,
-                  taken,
-                  ne-eqb (getD d 0 0 / 16 % 4) (type (version v)) h,
-                )
-
-            pub long-ids : getD d 0 0 / 16 % 4 ≡ type (version v) → long takes type d ≡ ids v d
-            unfolding long
-            long-ids h =
-                rw (
-                  le-leb 1 (length d) some,
-                  le-leb (length d) limit fits,
-                  le-leb 0xc0 (getD d 0 0) formed,
-                  le-leb 5 (length d) whole,
-                  reads,
-                  ours,
-                  taken,
-                  eq-eqb (getD d 0 0 / 16 % 4) (type (version v)) h,
-                )
-
--- the parts of a long header that was read
-pub record LongWithin (d : List ℕ) (l : Long) : Type 0 where
+-- a long header that was read: its version is right, and the IDs, one behind the other, stand within the datagram
+pub record LongThere (takes : ℕ → Bool) (d : List ℕ) (l : Long) : Type 0 where
+  pub right : Judged takes d (l .version)
   pub destination : Within d 5 (l .destination)
   pub source : Within d (behind (l .destination)) (l .source)
 
-pub ids-within : (v : ℕ) (d : List ℕ) {l : Long} → given l ≡ ids v d → LongWithin d l
-unfolding ids
-ids-within v d is =
-    let one = stepped (idAt d 5) _ (sym is) in
-    let two = stepped (idAt d (behind (one .0))) _ (one .2) in
-    let same = given-same (two .2) in
-    rw (← same) (record { destination = id-within d 5 (sym (one .1)); source = id-within d (behind (one .0)) (sym (two .1)) })
-
--- a long header that was read is of a known version that is taken, and its parts stand within the datagram
-pub record LongRead (takes : ℕ → Bool) (d : List ℕ) (l : Long) : Type 0 where
-  pub fits : length d ≤ limit
-  pub ours : known (l .version) ≡ true
-  pub taken : takes (l .version) ≡ true
-  pub parts : LongWithin d l
-
-pub ids-version : (v : ℕ) (d : List ℕ) {l : Long} → given l ≡ ids v d → v ≡ l .version
-unfolding ids
-ids-version v d is =
-    let one = stepped (idAt d 5) _ (sym is) in
-    let two = stepped (idAt d (behind (one .0))) _ (one .2) in
-    ap (λ (l : Long). l .version) (given-same (two .2))
-
-pub long-within : (takes : ℕ → Bool) (type : Version → ℕ) (d : List ℕ) {l : Long} → given l ≡ long takes type d → LongRead takes d l
+pub long-there : (takes : ℕ → Bool) (type : Version → ℕ) (d : List ℕ) {l : Long} → given l ≡ long takes type d → LongThere takes d l
 unfolding long
-long-within takes type d is =
-    let v = number (part d 1 4) in
-    let size = passed 1 (leb 1 (length d) && leb (length d) limit) _ (sym is) in
-    let form = passed 2 (leb 0xc0 (getD d 0 0)) _ (size .1) in
-    let whole = passed 3 (leb 5 (length d)) _ (form .1) in
-    let right = passed 4 (known v && takes v) _ (whole .1) in
-    let typed = passed 6 (eqb (getD d 0 0 / 16 % 4) (type (version v))) (ids v d) (right .1) in
-    let is-v = ids-version v d (sym (typed .1)) in
-    let two = both (known v) (takes v) (right .0) in
-    record {
-      fits = leb-true (length d) limit (both (leb 1 (length d)) (leb (length d) limit) (size .0) .1);
-      ours = rw (← is-v) (two .0);
-      taken = rw (← is-v) (two .1);
-      parts = ids-within v d (sym (typed .1));
-    }
+long-there takes type d is =
+    let right = stepped (judged takes type d) _ (sym is) in
+    let one = stepped (idAt d 5) _ (right .2) in
+    let two = stepped (idAt d (behind (one .0))) _ (one .2) in
+    rw (← (given-same (two .2))) (record {
+      right = judged-there takes type d (sym (right .1));
+      destination = id-within d 5 (sym (one .1));
+      source = id-within d (behind (one .0)) (sym (two .1));
+    })
 
 -- ---- the Initial packet's header
 module _ (takes : ℕ → Bool) (d : List ℕ) where
@@ -159,11 +157,9 @@ module _ (takes : ℕ → Bool) (d : List ℕ) where
       unfolding header
       header-found e = rw (← is-long, ← is-token, ← e)
 
--- a header that was read: its version, and that its parts, one behind the other, stand within the datagram
-pub record HeaderRead (takes : ℕ → Bool) (d : List ℕ) (h : Header) : Type 0 where
-  pub fits : length d ≤ limit
-  pub ours : known (h .version) ≡ true
-  pub taken : takes (h .version) ≡ true
+-- a header that was read: its version is right, and its parts, one behind the other, stand within the datagram
+pub record HeaderThere (takes : ℕ → Bool) (d : List ℕ) (h : Header) : Type 0 where
+  pub right : Judged takes d (h .version)
   pub destination : Within d 5 (h .destination)
   pub source : Within d (behind (h .destination)) (h .source)
   pub token : Within d (behind (h .source)) (h .token)
@@ -171,22 +167,20 @@ pub record HeaderRead (takes : ℕ → Bool) (d : List ℕ) (h : Header) : Type 
   pub enough : leastLength ≤ h .length′
   pub all : h .numberAt + h .length′ ≤ length d
 
-pub header-within : (takes : ℕ → Bool) (d : List ℕ) {h : Header} → given h ≡ header takes d → HeaderRead takes d h
+pub header-there : (takes : ℕ → Bool) (d : List ℕ) {h : Header} → given h ≡ header takes d → HeaderThere takes d h
 unfolding header
-header-within takes d is =
+header-there takes d is =
     let one = stepped (long takes (λ v. v .initialType) d) _ (sym is) in
     let two = stepped (fieldAt d (behind (one .0 .source))) _ (one .2) in
     let three = stepped (restAt d (behind (two .0))) _ (two .2) in
-    let begin = long-within takes (λ v. v .initialType) d (sym (one .1)) in
-    let token = field-within d (behind (one .0 .source)) (begin .parts .source .inside) (sym (two .1)) in
+    let begin = long-there takes (λ v. v .initialType) d (sym (one .1)) in
+    let token = field-within d (behind (one .0 .source)) (begin .source .inside) (sym (two .1)) in
     let rest = rest-within d (behind (two .0)) (token .inside) (sym (three .1)) in
     let same = given-same (three .2) in
     rw (← same) (record {
-      fits = begin .fits;
-      ours = begin .ours;
-      taken = begin .taken;
-      destination = begin .parts .destination;
-      source = begin .parts .source;
+      right = begin .right;
+      destination = begin .destination;
+      source = begin .source;
       token = token;
       number = rest .0 .after;
       enough = rest .1;

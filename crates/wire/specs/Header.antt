@@ -47,23 +47,28 @@ pub record Long : Type 0 where
   pub destination : Place
   pub source : Place
 
--- the two IDs, behind the version
-unfoldable pub ids : (v : ℕ) → List ℕ → Outcome Long
-ids v d = do
-  destination ← idAt d 5
-  source ← idAt d (behind destination)
-  given (record { version = v; destination = destination; source = source })
-
--- form and fixed bit, the version, the type among that version's, the two IDs
-unfoldable pub long : (takes : ℕ → Bool) → (type : Version → ℕ) → List ℕ → Outcome Long
-long takes type d = do
+-- form and fixed bit, and the version behind them
+unfoldable pub versionOf : List ℕ → Outcome ℕ
+versionOf d = do
   unless 1 (leb 1 (length d) && leb (length d) limit)
   unless 2 (leb 0xc0 (getD d 0 0))
   whole d 1 4
-  let v = number (part d 1 4)
+  given (number (part d 1 4))
+
+-- the version, where it is taken, and the type is that version's
+unfoldable pub judged : (takes : ℕ → Bool) → (type : Version → ℕ) → List ℕ → Outcome ℕ
+judged takes type d = do
+  v ← versionOf d
   unless 4 (known v && takes v)
   unless 6 (eqb (getD d 0 0 / 16 % 4) (type (version v)))
-  ids v d
+  given v
+
+unfoldable pub long : (takes : ℕ → Bool) → (type : Version → ℕ) → List ℕ → Outcome Long
+long takes type d = do
+  v ← judged takes type d
+  destination ← idAt d 5
+  source ← idAt d (behind destination)
+  given (record { version = v; destination = destination; source = source })
 
 -- ---- section 17.2.2: the Initial packet
 pub record Header : Type 0 where

@@ -15,6 +15,8 @@ use Rattle.wire.specs.declared.header.Wanted.{Wanted}
 use Rattle.wire.specs.declared.header.Wanted.the-variants as Wanted
 use Rattle.wire.specs.declared.header.Kind.{Kind}
 use Rattle.wire.specs.declared.header.Kind.the-variants as Kind
+use Rattle.wire.specs.declared.header.Version.{Version as VersionRead}
+use Rattle.wire.specs.declared.header.Version.the-variants as VersionRead
 use Rattle.wire.specs.declared.header.Long.{Long}
 use Rattle.wire.specs.declared.header.LongReading.{LongReading}
 use Rattle.wire.specs.declared.header.LongReading.the-variants as LongReading
@@ -39,6 +41,10 @@ placeOf p = record { at = p .at; len = p .len }
 abbrev pub foundAnswer : Found → Outcome Section17.Place
 foundAnswer (Found.Refused n) = refused n
 foundAnswer (Found.At p) = given (placeOf p)
+
+abbrev pub versionAnswer : VersionRead → Outcome ℕ
+versionAnswer (VersionRead.Refused n) = refused n
+versionAnswer (VersionRead.Of v) = given v
 
 abbrev pub longOf : Long → Section17.Long
 longOf l = record { version = l .version; destination = placeOf (l .destination); source = placeOf (l .source) }

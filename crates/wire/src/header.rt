@@ -10,8 +10,8 @@ ghost use Prim.Native.Nat.{_+_, _≤_};
 ghost use lib.ListN.{length};
 ghost use Rattle.octets.specs.Octets.{part};
 ghost use Rattle.wire.specs.Versions as Constants;
-ghost use Rattle.wire.specs.Header.{idAt, integerAt, fieldAt, restAt, ids, long, header};
-ghost use Rattle.wire.specs.HeaderAnswers.{takes, typeOf, foundAnswer, longAnswer, readingAnswer, ReadHeader, HeaderDestination, HeaderSource, HeaderToken};
+ghost use Rattle.wire.specs.Header.{idAt, integerAt, fieldAt, restAt, versionOf, judged, long, header};
+ghost use Rattle.wire.specs.HeaderAnswers.{takes, typeOf, foundAnswer, versionAnswer, longAnswer, readingAnswer, ReadHeader, HeaderDestination, HeaderSource, HeaderToken};
 
 // The largest datagram.
 const LIMIT: usize = 1500;
@@ -46,6 +46,12 @@ pub enum Kind {
     Retry,
 }
 
+// The version that a long header names, or why it names none.
+pub enum Version {
+    Refused(u8),
+    Of(u32),
+}
+
 // What every long header begins with.
 pub struct Long {
     pub version: u32,
@@ -53,6 +59,7 @@ pub struct Long {
     pub source: Place,
 }
 
+// What reading it answers: a refusal's number, or the version and the IDs' places.
 pub enum LongReading {
     Refused(u8),
     Read(Long),
@@ -158,10 +165,53 @@ fn type_of(kind: Kind, version: u32) -> u8
     }
 }
 
-// The two IDs behind a version that is right.
-fn read_ids(datagram: &[u8], version: u32) -> LongReading
-    ensures { λ r. ⌜ longAnswer r ≡ ids version (now (datagram .entry)) ⌝ }
+// The version behind a first byte whose form and fixed bit are set.
+fn read_version(datagram: &[u8]) -> Version
+    ensures { λ r. ⌜ versionAnswer r ≡ versionOf (now (datagram .entry)) ⌝ }
 {
+    if datagram.len() < 1 {
+        return Version::Refused(refusal::SIZE);
+    }
+    if LIMIT < datagram.len() {
+        return Version::Refused(refusal::SIZE);
+    }
+    if datagram[0] < 0xc0 {
+        return Version::Refused(refusal::FORM);
+    }
+    if datagram.len() < 5 {
+        return Version::Refused(refusal::NOT_WHOLE);
+    }
+    Version::Of(octets::load(&datagram[1..5]) as u32)
+}
+
+// The version, where it is wanted, and the type is that version's.
+fn judge_version(datagram: &[u8], wanted: Wanted, kind: Kind) -> Version
+    ensures { λ r. ⌜ versionAnswer r ≡ judged (takes wanted) (typeOf kind) (now (datagram .entry)) ⌝ }
+{
+    let version = match read_version(datagram) {
+        Version::Refused(why) => return Version::Refused(why),
+        Version::Of(version) => version,
+    };
+    if !is_known(version) {
+        return Version::Refused(refusal::VERSION);
+    }
+    if !is_taken(wanted, version) {
+        return Version::Refused(refusal::VERSION);
+    }
+    if datagram[0] / 16 % 4 != type_of(kind, version) {
+        return Version::Refused(refusal::TYPE);
+    }
+    Version::Of(version)
+}
+
+// Section 17.2: what every long header begins with, of a version that is wanted and a packet of the kind.
+pub fn read_long(datagram: &[u8], wanted: Wanted, kind: Kind) -> LongReading
+    ensures { λ r. ⌜ longAnswer r ≡ long (takes wanted) (typeOf kind) (now (datagram .entry)) ⌝ }
+{
+    let version = match judge_version(datagram, wanted, kind) {
+        Version::Refused(why) => return LongReading::Refused(why),
+        Version::Of(version) => version,
+    };
     let destination = match id_at(datagram, 5) {
         Found::Refused(why) => return LongReading::Refused(why),
         Found::At(place) => place,
@@ -175,36 +225,6 @@ fn read_ids(datagram: &[u8], version: u32) -> LongReading
         destination,
         source,
     })
-}
-
-// Section 17.2: form and fixed bit, the version, the type among that version's, the two IDs.
-pub fn read_long(datagram: &[u8], wanted: Wanted, kind: Kind) -> LongReading
-    ensures { λ r. ⌜ longAnswer r ≡ long (takes wanted) (typeOf kind) (now (datagram .entry)) ⌝ }
-{
-    if datagram.len() < 1 {
-        return LongReading::Refused(refusal::SIZE);
-    }
-    if LIMIT < datagram.len() {
-        return LongReading::Refused(refusal::SIZE);
-    }
-    let first = datagram[0];
-    if first < 0xc0 {
-        return LongReading::Refused(refusal::FORM);
-    }
-    if datagram.len() < 5 {
-        return LongReading::Refused(refusal::NOT_WHOLE);
-    }
-    let version = octets::load(&datagram[1..5]) as u32;
-    if !is_known(version) {
-        return LongReading::Refused(refusal::VERSION);
-    }
-    if !is_taken(wanted, version) {
-        return LongReading::Refused(refusal::VERSION);
-    }
-    if first / 16 % 4 != type_of(kind, version) {
-        return LongReading::Refused(refusal::TYPE);
-    }
-    read_ids(datagram, version)
 }
 
 // Section 17.2.2: the header of an Initial packet of a version that is wanted.

@@ -2,7 +2,7 @@
 use mathlib.Core.Path.{sym, ap, _∙_}
 use borrow.Author.Needs.{needs}
 use Rattle.wire.specs.HeaderAnswers.{readingAnswer}
-use Rattle.wire.proofs.Headers.{header-within, handed-none, handed-part}
+use Rattle.wire.proofs.Headers.{header-there, handed-none, handed-part}
 use Rattle.wire.proofs.header.header_destination.Statement.{statement}
 use Rattle.wire.proofs.header.header_destination.Tie as tie
 
@@ -19,7 +19,7 @@ enum-known-header : tie.Need-enum-known-header
 enum-known-header c = search needs
 
 part-at-requires : tie.Need-part-at-requires
-part-at-requires c κs = header-within _ _ (sym (ap readingAnswer (c .before .before .header .given .1)) ∙ c .before .before .before .before .read-header .ensures .answer) .destination .inside
+part-at-requires c κs = header-there _ _ (sym (ap readingAnswer (c .before .before .header .given .1)) ∙ c .before .before .before .before .read-header .ensures .answer) .destination .inside
 
 returns : tie.Need-returns
 returns c =

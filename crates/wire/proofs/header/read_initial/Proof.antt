@@ -4,7 +4,7 @@ use borrow.Author.Needs.{needs}
 use native.Mathlib.Omega.{arith}
 use Rattle.wire.specs.HeaderAnswers.{foundAnswer, longAnswer}
 use Rattle.wire.proofs.Fields.{field-within}
-use Rattle.wire.proofs.Headers.{long-within, header-no-long, header-no-token, header-no-rest, header-found}
+use Rattle.wire.proofs.Headers.{long-there, header-no-long, header-no-token, header-no-rest, header-found}
 use Rattle.wire.proofs.header.read_initial.Statement.{statement}
 use Rattle.wire.proofs.header.read_initial.Tie as tie
 
@@ -22,11 +22,11 @@ enum-known-long c = search needs
 
 add-field-at : tie.Need-add-field-at
 add-field-at c =
-    let within = long-within _ _ _ (sym (ap longAnswer (c .before .before .before .before .long .given .1)) ∙ c .before .before .before .before .before .before .read-long .ensures) in
+    let within = long-there _ _ _ (sym (ap longAnswer (c .before .before .before .before .long .given .1)) ∙ c .before .before .before .before .before .before .read-long .ensures) in
     omega arith
 
 field-at-requires : tie.Need-field-at-requires
-field-at-requires c κs = long-within _ _ _ (sym (ap longAnswer (c .before .before .before .before .long .given .1)) ∙ c .before .before .before .before .before .before .read-long .ensures) .parts .source .inside
+field-at-requires c κs = long-there _ _ _ (sym (ap longAnswer (c .before .before .before .before .long .given .1)) ∙ c .before .before .before .before .before .before .read-long .ensures) .source .inside
 
 enum-known-why-2 : tie.Need-enum-known-why-2
 enum-known-why-2 c = search needs
@@ -39,14 +39,14 @@ enum-known-place c = search needs
 
 add-rest-at : tie.Need-add-rest-at
 add-rest-at c =
-    let begun = long-within _ _ _ (sym (ap longAnswer (c .before .before .before .before .before .before .before .before .before .long .given .1)) ∙ c .before .before .before .before .before .before .before .before .before .before .before .read-long .ensures) in
-    let within = field-within _ _ (begun .parts .source .inside) (sym (ap foundAnswer (c .before .before .place .given .1)) ∙ c .before .before .before .before .field-at .ensures) in
+    let begin = long-there _ _ _ (sym (ap longAnswer (c .before .before .before .before .before .before .before .before .before .long .given .1)) ∙ c .before .before .before .before .before .before .before .before .before .before .before .read-long .ensures) in
+    let within = field-within _ _ (begin .source .inside) (sym (ap foundAnswer (c .before .before .place .given .1)) ∙ c .before .before .before .before .field-at .ensures) in
     omega arith
 
 rest-at-requires : tie.Need-rest-at-requires
 rest-at-requires c κs =
-    let begun = long-within _ _ _ (sym (ap longAnswer (c .before .before .before .before .before .before .before .before .before .long .given .1)) ∙ c .before .before .before .before .before .before .before .before .before .before .before .read-long .ensures) in
-    field-within _ _ (begun .parts .source .inside) (sym (ap foundAnswer (c .before .before .place .given .1)) ∙ c .before .before .before .before .field-at .ensures) .inside
+    let begin = long-there _ _ _ (sym (ap longAnswer (c .before .before .before .before .before .before .before .before .before .long .given .1)) ∙ c .before .before .before .before .before .before .before .before .before .before .before .read-long .ensures) in
+    field-within _ _ (begin .source .inside) (sym (ap foundAnswer (c .before .before .place .given .1)) ∙ c .before .before .before .before .field-at .ensures) .inside
 
 enum-known-why-3 : tie.Need-enum-known-why-3
 enum-known-why-3 c = search needs

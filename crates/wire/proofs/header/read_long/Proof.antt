@@ -1,98 +1,80 @@
--- Each refusal is one law; behind the type stand the IDs.
-use mathlib.Core.Path.{sym, _∙_}
-use borrow.Author.Tests.{not-true, not-false}
+-- The source ID stands behind the destination ID, which stands within the datagram.
+use mathlib.Core.Path.{sym, ap, _∙_}
 use borrow.Author.Needs.{needs}
 use native.Mathlib.Omega.{arith}
-use Rattle.wire.proofs.Fields.{four-bytes}
-use Rattle.wire.proofs.Headers.{long-empty, long-large, long-form, long-short, long-unknown, long-other, long-type, long-ids}
+use Rattle.wire.specs.HeaderAnswers.{versionAnswer, foundAnswer}
+use Rattle.wire.proofs.Fields.{id-within}
+use Rattle.wire.proofs.Headers.{long-no-version, long-no-destination, long-no-source, long-found}
 use Rattle.wire.proofs.header.read_long.Statement.{statement}
 use Rattle.wire.proofs.header.read_long.Tie as tie
 
+judge-version-requires : tie.Need-judge-version-requires
+judge-version-requires c κs = search needs
+
+enum-known-why : tie.Need-enum-known-why
+enum-known-why c = search needs
+
 returns : tie.Need-returns
-returns c = sym (long-empty _ _ _ (omega arith))
+returns c = sym (long-no-version _ _ _ (sym (ap versionAnswer (c .before .why .given .1)) ∙ c .before .before .before .judge-version .ensures))
+
+enum-known-version : tie.Need-enum-known-version
+enum-known-version c = search needs
+
+id-at-requires : tie.Need-id-at-requires
+id-at-requires c κs = search needs
+
+enum-known-why-2 : tie.Need-enum-known-why-2
+enum-known-why-2 c = search needs
 
 returns-2 : tie.Need-returns-2
-returns-2 c = sym (long-large _ _ _ (omega arith) (omega arith))
+returns-2 c =
+    let right = sym (ap versionAnswer (c .before .before .before .before .before .version .given .1)) ∙ c .before .before .before .before .before .before .before .judge-version .ensures in
+    sym (long-no-destination _ _ _ right (sym (ap foundAnswer (c .before .why2 .given .1)) ∙ c .before .before .before .id-at .ensures))
 
-shared-slice-read-first : tie.Need-shared-slice-read-first
-shared-slice-read-first c = search needs
+enum-known-place : tie.Need-enum-known-place
+enum-known-place c = search needs
+
+add-id-at : tie.Need-add-id-at
+add-id-at c =
+    let within = id-within _ _ (sym (ap foundAnswer (c .before .before .place .given .1)) ∙ c .before .before .before .before .id-at .ensures) in
+    omega arith
+
+id-at-requires-2 : tie.Need-id-at-requires-2
+id-at-requires-2 c κs = search needs
+
+enum-known-why-3 : tie.Need-enum-known-why-3
+enum-known-why-3 c = search needs
 
 returns-3 : tie.Need-returns-3
-returns-3 c = sym (long-form _ _ _ (omega arith) (omega arith) (omega arith))
+returns-3 c =
+    let right = sym (ap versionAnswer (c .before .before .before .before .before .before .before .before .before .before .version .given .1)) ∙ c .before .before .before .before .before .before .before .before .before .before .before .before .judge-version .ensures in
+    let destination = sym (ap foundAnswer (c .before .before .before .before .before .before .place .given .1)) ∙ c .before .before .before .before .before .before .before .before .id-at .ensures in
+    sym (long-no-source _ _ _ right destination (sym (ap foundAnswer (c .before .why3 .given .1)) ∙ c .before .before .before .id-at2 .ensures))
+
+enum-known-place-2 : tie.Need-enum-known-place-2
+enum-known-place-2 c = search needs
 
 returns-4 : tie.Need-returns-4
-returns-4 c = sym (long-short _ _ _ (omega arith) (omega arith) (omega arith) (omega arith))
-
-sub-load : tie.Need-sub-load
-sub-load c = search needs
-
-part-load-start : tie.Need-part-load-start
-part-load-start c = search needs
-
-part-load-end : tie.Need-part-load-end
-part-load-end c = search needs
-
-load-requires : tie.Need-load-requires
-load-requires c κs = search needs
-
-cast-version : tie.Need-cast-version
-cast-version c = omega (arith, c .load .ensures, four-bytes (c .before .before .before .before .before .before .before .before .args .datagram .now) 1 (λ i. c .before .before .before .before .before .before .before .shared-slice-known .given i .fits) (omega arith))
-
-is-known-requires : tie.Need-is-known-requires
-is-known-requires c κs = search needs
-
-returns-5 : tie.Need-returns-5
-returns-5 c =
-    let unknown = sym (c .before .is-known .ensures) ∙ not-true _ (c .if5 .taken) in
-    sym (long-unknown _ _ _ (omega arith) (omega arith) (omega arith) (omega arith) (sym (c .before .before .load .ensures)) unknown)
-
-is-taken-requires : tie.Need-is-taken-requires
-is-taken-requires c κs = search needs
-
-returns-6 : tie.Need-returns-6
-returns-6 c =
-    let ours = sym (c .before .before .before .is-known .ensures) ∙ not-false _ (c .before .before .if5 .left) in
-    let other = sym (c .before .is-taken .ensures) ∙ not-true _ (c .if6 .taken) in
-    sym (long-other _ _ _ (omega arith) (omega arith) (omega arith) (omega arith) (sym (c .before .before .before .before .load .ensures)) ours other)
-
-type-of-requires : tie.Need-type-of-requires
-type-of-requires c κs = search needs
-
-returns-7 : tie.Need-returns-7
-returns-7 c =
-    let ours = sym (c .before .before .before .before .before .is-known .ensures) ∙ not-false _ (c .before .before .before .before .if5 .left) in
-    let taken = sym (c .before .before .before .is-taken .ensures) ∙ not-false _ (c .before .before .if6 .left) in
-    sym (long-type _ _ _ (omega arith) (omega arith) (omega arith) (omega arith) (sym (c .before .before .before .before .before .before .load .ensures)) ours taken (λ e. c .if7 .taken (e ∙ sym (c .before .type-of .ensures))))
-
-read-ids-requires : tie.Need-read-ids-requires
-read-ids-requires c κs = search needs
-
-returns-8 : tie.Need-returns-8
-returns-8 c =
-    let ours = sym (c .before .before .before .before .before .before .is-known .ensures) ∙ not-false _ (c .before .before .before .before .before .if5 .left) in
-    let taken = sym (c .before .before .before .before .is-taken .ensures) ∙ not-false _ (c .before .before .before .if6 .left) in
-    let typed = c .before .if7 .left ∙ c .before .before .type-of .ensures in
-    c .read-ids .ensures ∙ sym (long-ids _ _ _ (omega arith) (omega arith) (omega arith) (omega arith) (sym (c .before .before .before .before .before .before .before .load .ensures)) ours taken typed)
+returns-4 c =
+    let right = sym (ap versionAnswer (c .before .before .before .before .before .before .before .before .before .before .version .given .1)) ∙ c .before .before .before .before .before .before .before .before .before .before .before .before .judge-version .ensures in
+    let destination = sym (ap foundAnswer (c .before .before .before .before .before .before .place .given .1)) ∙ c .before .before .before .before .before .before .before .before .id-at .ensures in
+    sym (long-found _ _ _ right destination (sym (ap foundAnswer (c .before .place2 .given .1)) ∙ c .before .before .before .id-at2 .ensures))
 
 pub read-long-spec : {M : Type 1} → statement M
 read-long-spec =
     tie.close
     (tie.spec
+    judge-version-requires
+    enum-known-why
     returns
+    enum-known-version
+    id-at-requires
+    enum-known-why-2
     returns-2
-    shared-slice-read-first
+    enum-known-place
+    add-id-at
+    id-at-requires-2
+    enum-known-why-3
     returns-3
-    returns-4
-    sub-load
-    part-load-start
-    part-load-end
-    load-requires
-    cast-version
-    is-known-requires
-    returns-5
-    is-taken-requires
-    returns-6
-    type-of-requires
-    returns-7
-    read-ids-requires
-    returns-8)
+    enum-known-place-2
+    returns-4)
