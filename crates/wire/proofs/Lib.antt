@@ -4,3 +4,6 @@ pub mod Recovery
 pub mod Versions
 pub mod Fields
 pub mod Headers
+pub mod Places
+pub mod IntegersBack
+pub mod HeaderBack
