@@ -1,1 +1,1 @@
-pub mod Nonce
+pub mod Filled

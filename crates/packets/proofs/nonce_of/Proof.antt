@@ -6,7 +6,7 @@ use borrow.Author.Needs.{needs}
 use native.Mathlib.Omega.{arith}
 use lib.ListN.{replicate}
 use Rattle.octets.specs.Octets.{laid, xor}
-use Rattle.packets.proofs.Nonce.{combined}
+use Rattle.packets.proofs.Filled.{combined}
 use Rattle.packets.proofs.nonce_of.Statement.{statement}
 use Rattle.packets.proofs.nonce_of.Tie as tie
 use Rattle.packets.proofs.nonce_of.Reads as reads
