@@ -5,9 +5,9 @@ ghost use lib.ListN.{length};
 ghost use Rattle.packets.specs.Protection.{masked};
 
 // Section 5.4.1: the mask laid over the packet at the buffer's start, whose number stands in `count` bytes at a place.
-fn protect(mask: &[u8; 16], place: usize, count: usize, buffer: &mut [u8])
+fn protect(mask: [u8; 16], place: usize, count: usize, buffer: &mut [u8])
     requires { ⌜ (1 ≤ place) × (count ≤ 4) × (place + count ≤ length (now buffer)) ⌝ }
-    ensures { λ _. ⌜ now (buffer .exit) ≡ masked (now (mask .entry)) place count (now (buffer .entry)) ⌝ }
+    ensures { λ _. ⌜ now (buffer .exit) ≡ masked mask place count (now (buffer .entry)) ⌝ }
 {
     let end = place + count;
     let mut short = [0u8; 4];
