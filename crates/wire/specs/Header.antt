@@ -1,5 +1,5 @@
 -- The long header, read: RFC 9000 sections 17.2 and 17.2.2, with document 01's order of refusals.
-use Prim.Native.Nat.{ℕ, _+_, _*_, _/_, _%_}
+use Prim.Native.Nat.{ℕ, _+_, _/_, _%_}
 use mathlib.Core.List.{List}
 use mathlib.Core.Bool.{Bool, _&&_}
 use lib.Dec.{leb, eqb}
@@ -47,15 +47,25 @@ pub record Long : Type 0 where
   pub destination : Place
   pub source : Place
 
--- form and fixed bit, the version, the type among that version's, the two IDs
-unfoldable pub long : (takes : ℕ → Bool) → (type : Version → ℕ) → List ℕ → Outcome Long
-long takes type d = do
+-- form and fixed bit, and the version behind them
+unfoldable pub versionOf : List ℕ → Outcome ℕ
+versionOf d = do
   unless 1 (leb 1 (length d) && leb (length d) limit)
   unless 2 (leb 0xc0 (getD d 0 0))
   whole d 1 4
-  let v = number (part d 1 4)
+  given (number (part d 1 4))
+
+-- the version, where it is taken, and the type is that version's
+unfoldable pub judged : (takes : ℕ → Bool) → (type : Version → ℕ) → List ℕ → Outcome ℕ
+judged takes type d = do
+  v ← versionOf d
   unless 4 (known v && takes v)
   unless 6 (eqb (getD d 0 0 / 16 % 4) (type (version v)))
+  given v
+
+unfoldable pub long : (takes : ℕ → Bool) → (type : Version → ℕ) → List ℕ → Outcome Long
+long takes type d = do
+  v ← judged takes type d
   destination ← idAt d 5
   source ← idAt d (behind destination)
   given (record { version = v; destination = destination; source = source })
@@ -70,7 +80,7 @@ pub record Header : Type 0 where
   pub numberAt : ℕ
 
 -- an integer from a place on: its value, and where it ends
-abbrev pub integerAt : List ℕ → ℕ → Outcome Place
+unfoldable pub integerAt : List ℕ → ℕ → Outcome Place
 integerAt d at = do
   i ← integer (drop at d)
   given (record { at = at + i .taken; len = i .value })

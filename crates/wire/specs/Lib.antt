@@ -4,3 +4,4 @@ pub mod Versions
 pub mod Header
 pub mod Written
 pub mod Answers
+pub mod HeaderAnswers

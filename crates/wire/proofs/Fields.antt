@@ -1,0 +1,152 @@
+-- Sections 16 and 17.2: what reading one field comes to, by what the tests show; and where a field that is found stands.
+use Prim.Native.Nat.{ℕ, zero, suc, _+_, _-_, _/_, _^_, _≤_, _<_}
+use mathlib.Core.Path.{_≡_, sym, ap}
+use mathlib.Core.List.{List, [], _∷_}
+use native.Mathlib.Omega.{arith}
+use lib.Dec.{leb, lit<}
+use lib.ListN.{length, getD, take, drop, length-drop}
+use lib.Seq.{take-all, length-take-le, getD-drop}
+use borrow.Author.Tests.{le-leb, lt-leb, leb-true}
+use Rattle.octets.specs.Outcome.{refused, given}
+use Rattle.octets.specs.Octets.{Bytes, number, part}
+use Rattle.octets.proofs.Numbers.{number-lt}
+use Rattle.octets.proofs.Outcome.{passed, stepped, given-same}
+use Rattle.wire.specs.Integer.{Integer, integer}
+use Rattle.wire.specs.Header.{Place, behind, longestId, leastLength, idAt, integerAt, fieldAt, restAt}
+
+-- a field that was looked for from a place on stands behind that place, and all of it within the datagram
+pub record Within (d : List ℕ) (at : ℕ) (p : Place) : Type 0 where
+  pub after : at ≤ p .at
+  pub inside : behind p ≤ length d
+
+-- an integer takes no more than there is
+pub integer-taken : (s : List ℕ) {i : Integer} → given i ≡ integer s → i .taken ≤ length s
+unfolding integer
+integer-taken s is =
+    let some = passed 3 (leb 1 (length s)) _ (sym is) in
+    let all = passed 3 (leb (2 ^ (getD s 0 0 / 64)) (length s)) _ (some .1) in
+    let same = ap (λ (i : Integer). i .taken) (given-same (all .1)) in
+    omega (arith, leb-true (2 ^ (getD s 0 0 / 64)) (length s) (all .0))
+
+-- the first of some bytes are bytes
+take-bytes : (n : ℕ) (s : List ℕ) → Bytes s → Bytes (take n s)
+take-bytes zero s h i = lit< tt
+take-bytes (suc n) [] h i = lit< tt
+take-bytes (suc n) (x ∷ s) h zero = h 0
+take-bytes (suc n) (x ∷ s) h (suc i) = take-bytes n s (λ j. h (suc j)) i
+
+-- what four bytes spell fits a word of 32 bits
+pub four-bytes : (d : List ℕ) (at : ℕ) → Bytes d → at + 4 ≤ length d → number (part d at 4) < 2 ^ 32
+four-bytes d at h fits =
+    let four = length-take-le 4 (drop at d) (omega (arith, length-drop at d)) in
+    rw four at (number-lt (part d at 4) (take-bytes 4 (drop at d) (λ i. rw (getD-drop at d i 0) (h (at + i)))))
+
+module _ (d : List ℕ) (at : ℕ) where
+  -- the part from a place to the end
+  pub to-end : part d at (length d - at) ≡ drop at d
+  to-end = take-all (length d - at) (drop at d) (omega (arith, length-drop at d))
+
+  -- ---- a length byte and as many bytes
+  pub id-none : length d ≤ at → idAt d at ≡ refused 3
+  unfolding idAt
+  id-none h = rw (lt-leb (at + 1) (length d) (omega arith))
+
+  pub id-long : at < length d → longestId < getD d at 0 → idAt d at ≡ refused 5
+  unfolding idAt
+  id-long there h = rw (le-leb (at + 1) (length d) (omega arith), lt-leb (getD d at 0) longestId h)
+
+  pub id-short : at < length d → getD d at 0 ≤ longestId → length d < at + 1 + getD d at 0 → idAt d at ≡ refused 3
+  unfolding idAt
+  id-short there fair h =
+      rw (le-leb (at + 1) (length d) (omega arith), le-leb (getD d at 0) longestId fair, lt-leb (at + 1 + getD d at 0) (length d) h)
+
+  pub id-whole : at < length d → getD d at 0 ≤ longestId → at + 1 + getD d at 0 ≤ length d
+      → idAt d at ≡ given (record { at = at + 1; len = getD d at 0 })
+  unfolding idAt
+  id-whole there fair h =
+      rw (le-leb (at + 1) (length d) (omega arith), le-leb (getD d at 0) longestId fair, le-leb (at + 1 + getD d at 0) (length d) h)
+
+  pub id-within : {p : Place} → given p ≡ idAt d at → Within d at p
+  unfolding idAt
+  id-within is =
+      let there = passed 3 (leb (at + 1) (length d)) _ (sym is) in
+      let fair = passed 5 (leb (getD d at 0) longestId) _ (there .1) in
+      let all = passed 3 (leb (at + 1 + getD d at 0) (length d)) _ (fair .1) in
+      let same = given-same (all .1) in
+      let starts = ap (λ (p : Place). p .at) same in
+      let spans = ap (λ (p : Place). p .len) same in
+      record { after = omega arith; inside = omega (arith, leb-true (at + 1 + getD d at 0) (length d) (all .0)) }
+
+  -- ---- an integer
+  pub integer-refused : {n : ℕ} → refused n ≡ integer (drop at d) → integerAt d at ≡ refused n
+  unfolding integerAt
+  integer-refused e = rw (← e)
+
+  pub integer-found : {i : Integer} → given i ≡ integer (drop at d) → integerAt d at ≡ given (record { at = at + i .taken; len = i .value })
+  unfolding integerAt
+  integer-found e = rw (← e)
+
+  -- it ends within the datagram
+  pub integer-end : {p : Place} → at ≤ length d → given p ≡ integerAt d at → (at ≤ p .at) × (p .at ≤ length d)
+  unfolding integerAt
+  integer-end start is =
+      let step = stepped (integer (drop at d)) _ (sym is) in
+      let ends = ap (λ (p : Place). p .at) (given-same (step .2)) in
+      let most = integer-taken (drop at d) (sym (step .1)) in
+      omega (arith, length-drop at d)
+
+  -- ---- a length and as many bytes
+  pub field-refused : {n : ℕ} → refused n ≡ integerAt d at → fieldAt d at ≡ refused n
+  unfolding fieldAt
+  field-refused e = rw (← e)
+
+  module _ {p : Place} (is : given p ≡ integerAt d at) where
+    pub field-short : length d < behind p → fieldAt d at ≡ refused 3
+    unfolding fieldAt
+    field-short h = rw (← is, lt-leb (behind p) (length d) h)
+
+    pub field-whole : behind p ≤ length d → fieldAt d at ≡ given p
+    unfolding fieldAt
+    field-whole h = rw (← is, le-leb (behind p) (length d) h)
+
+  pub field-within : {p : Place} → at ≤ length d → given p ≡ fieldAt d at → Within d at p
+  unfolding fieldAt
+  field-within start is =
+      let step = stepped (integerAt d at) _ (sym is) in
+      let all = passed 3 (leb (behind (step .0)) (length d)) _ (step .2) in
+      let same = given-same (all .1) in
+      let starts = ap (λ (p : Place). p .at) same in
+      let spans = ap (λ (p : Place). p .len) same in
+      let end = integer-end start (sym (step .1)) in
+      record { after = omega arith; inside = omega (arith, leb-true (behind (step .0)) (length d) (all .0)) }
+
+  -- ---- the rest of the packet
+  pub rest-refused : {n : ℕ} → refused n ≡ integerAt d at → restAt d at ≡ refused n
+  unfolding restAt
+  rest-refused e = rw (← e)
+
+  module _ {p : Place} (is : given p ≡ integerAt d at) where
+    pub rest-small : p .len < leastLength → restAt d at ≡ refused 7
+    unfolding restAt
+    rest-small h = rw (← is, lt-leb leastLength (p .len) h)
+
+    pub rest-short : leastLength ≤ p .len → length d < behind p → restAt d at ≡ refused 3
+    unfolding restAt
+    rest-short fair h = rw (← is, le-leb leastLength (p .len) fair, lt-leb (behind p) (length d) h)
+
+    pub rest-whole : leastLength ≤ p .len → behind p ≤ length d → restAt d at ≡ given p
+    unfolding restAt
+    rest-whole fair h = rw (← is, le-leb leastLength (p .len) fair, le-leb (behind p) (length d) h)
+
+  pub rest-within : {p : Place} → at ≤ length d → given p ≡ restAt d at → Within d at p × (leastLength ≤ p .len)
+  unfolding restAt
+  rest-within start is =
+      let step = stepped (integerAt d at) _ (sym is) in
+      let fair = passed 7 (leb leastLength (step .0 .len)) _ (step .2) in
+      let all = passed 3 (leb (behind (step .0)) (length d)) _ (fair .1) in
+      let same = given-same (all .1) in
+      let starts = ap (λ (p : Place). p .at) same in
+      let spans = ap (λ (p : Place). p .len) same in
+      let end = integer-end start (sym (step .1)) in
+      let least = leb-true leastLength (step .0 .len) (fair .0) in
+      (record { after = omega arith; inside = omega (arith, leb-true (behind (step .0)) (length d) (all .0)) }, omega arith)
