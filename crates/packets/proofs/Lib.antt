@@ -1,1 +1,4 @@
+pub mod Same
+pub mod Parts
 pub mod Sealing
+pub mod Opening

@@ -1,3 +1,5 @@
 pub mod Suite
 pub mod Protection
 pub mod Packet
+pub mod Parts
+pub mod Effects
