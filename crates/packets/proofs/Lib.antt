@@ -1,1 +1,5 @@
 pub mod Filled
+pub mod Same
+pub mod Parts
+pub mod Sealing
+pub mod Opening

@@ -2,3 +2,5 @@ pub mod Suite
 pub mod Protection
 pub mod Packet
 pub mod KeyRecord
+pub mod Parts
+pub mod Effects

@@ -2,5 +2,5 @@
 pub mod header;
 pub mod integer;
 pub mod number;
-pub mod writing;
 pub mod version;
+pub mod writing;
