@@ -1,4 +1,11 @@
+-- The first byte and the number's bytes, each with its part of the mask laid on.
+use Prim.Native.Nat.{_+_, _-_}
+use mathlib.Core.Path.{sym, ap, _∙_}
 use borrow.Author.Needs.{needs}
+use native.Mathlib.Omega.{arith}
+use lib.ListN.{take, replicate}
+use lib.Seq.{length-take-le}
+use Rattle.seal.proofs.Masking.{number-taken, rest-length, mask-laid}
 use Rattle.seal.proofs.protect.Statement.{statement}
 use Rattle.seal.proofs.protect.Tie as tie
 use Rattle.seal.proofs.protect.Reads as reads
@@ -7,73 +14,64 @@ use Rattle.octets.proofs.copy.Reads as copy-reads
 use Rattle.octets.proofs.copy_masked.Reads as copy-masked-reads
 use Rattle.octets.proofs.put.Reads as put-reads
 
--- src/lib.rt:12:15
 add-end : tie.Need-add-end
 add-end c = search needs
 
--- src/lib.rt:14:18
 slice-aggregate-copy : tie.Need-slice-aggregate-copy
 slice-aggregate-copy c = search needs
 
--- src/lib.rt:14:33
 sub-copy : tie.Need-sub-copy
 sub-copy c = search needs
 
--- src/lib.rt:14:33
 part-copy-start : tie.Need-part-copy-start
 part-copy-start c = search needs
 
--- src/lib.rt:14:33
 part-copy-end : tie.Need-part-copy-end
 part-copy-end c = search needs
 
--- src/lib.rt:14:5
 copy-requires : tie.Need-copy-requires
 copy-requires c κs = search needs
 
--- src/lib.rt:15:17
 slice-read-first : tie.Need-slice-read-first
 slice-read-first c = search needs
 
--- src/lib.rt:15:30
 array-read-first : tie.Need-array-read-first
 array-read-first c = search needs
 
--- src/lib.rt:16:5
 put-requires : tie.Need-put-requires
 put-requires c κs = search needs
 
--- src/lib.rt:17:40
 array-share-prefix-short : tie.Need-array-share-prefix-short
 array-share-prefix-short c = search needs
 
--- src/lib.rt:17:40
 slice-aggregate-copy-masked : tie.Need-slice-aggregate-copy-masked
-slice-aggregate-copy-masked c = ?
+slice-aggregate-copy-masked c = sym (length-take-le _ _ (omega (arith, c .before .before .before .before .before .before .before .before .copy .kept .0)))
 
--- src/lib.rt:17:57
 sub-copy-masked : tie.Need-sub-copy-masked
 sub-copy-masked c = search needs
 
--- src/lib.rt:17:57
 part-copy-masked-start : tie.Need-part-copy-masked-start
 part-copy-masked-start c = search needs
 
--- src/lib.rt:17:57
 part-copy-masked-end : tie.Need-part-copy-masked-end
 part-copy-masked-end c = search needs
 
--- src/lib.rt:17:5
 copy-masked-requires : tie.Need-copy-masked-requires
-copy-masked-requires c κs = ?
+copy-masked-requires c κs =
+    let a = c .before .before .before .before .before .before .before .before .before .before .before .before .before .before .before .args in
+    let count = length-take-le (a .count) (c .before .before .before .before .before .before .before .before .before .before .copy .last .0) (omega (arith, c .before .before .before .before .before .before .before .before .before .before .copy .kept .0)) in
+    let rest = rest-length (a .t1) (search needs) in
+    (omega (arith, c .before .before .before .before .before .before .put .kept .0), omega arith)
 
--- src/lib.rt:8:1
 same-length : tie.Need-same-length
 same-length c = search needs
 
--- src/lib.rt:8:1
 returns : tie.Need-returns
-returns c = ?
+returns c =
+    let a = c .before .before .before .before .before .before .before .before .before .before .before .before .before .before .before .before .before .before .args in
+    let buffer = a .buffer .now in
+    let short = ap (take (a .count)) (c .before .before .before .before .before .before .before .before .before .before .before .before .before .copy .ensures) ∙ number-taken (replicate 4 0) buffer (a .place) (a .place + a .count - a .place) (a .count) (omega arith) (omega arith) in
+    mask-laid (a .t1) buffer _ _ _ (a .place) (a .count) (search needs) (c .before .before .before .before .before .before .before .before .before .put .ensures) short (c .before .before .copy-masked .ensures)
 
 pub protect-spec : {M : Type 1} → statement M
 protect-spec =
