@@ -1,0 +1,4 @@
+pub mod Linear
+pub mod Words
+pub mod Runs
+pub mod Filling

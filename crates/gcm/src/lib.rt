@@ -1,0 +1,3 @@
+// GCM with 128-bit keys and 96-bit nonces, NIST SP 800-38D.
+pub mod field;
+pub mod hash;
