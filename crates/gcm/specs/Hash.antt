@@ -1,5 +1,6 @@
 -- GHASH, SP 800-38D section 6.4, and the same taken byte by byte.
-use Prim.Native.Nat.{ℕ, zero, suc, _+_, _-_, _*_, _/_, _%_, _^_}
+use Prim.Native.Nat.{ℕ, zero, suc, _+_, _-_, _*_, _/_, _%_, _^_, _≤_, _<_}
+use mathlib.Core.Path.{_≡_}
 use mathlib.Core.Bool.{Bool, true, false}
 use mathlib.Core.List.{List, [], _∷_, foldl}
 use lib.Bits.{bitXor}
@@ -54,6 +55,17 @@ taken h g b =
 unfoldable pub absorbed : ℕ → State → List ℕ → State
 absorbed h = foldl (taken h)
 
+-- some of the bytes s behind place i are absorbed, and the place is j: what is left gives the same
+pub record Onward (h : ℕ) (s : List ℕ) (g : State) (i : ℕ) (g′ : State) (j : ℕ) : Type 0 where
+  pub same : absorbed h g′ (drop j s) ≡ absorbed h g (drop i s)
+  pub room : g′ .filled < 16
+  pub further : i < j
+  pub inside : j ≤ length s
+
 -- a block that has begun is whole, as if zeros had come
 unfoldable pub closed : ℕ → State → State
 closed h g = pick (ltb 0 (g .filled)) (record { y = g .y • h; filled = 0 }) g
+
+-- the last block: the lengths of the associated data and of the ciphertext, in bits
+unfoldable pub finished : ℕ → State → ℕ → ℕ → ℕ
+finished h g associated cipher = bitXor (closed h g .y) (8 * associated * 2 ^ 64 + 8 * cipher) • h
