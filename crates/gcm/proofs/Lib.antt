@@ -5,3 +5,4 @@ pub mod Filling
 pub mod Lists
 pub mod Adding
 pub mod Stream
+pub mod Counting
