@@ -4,3 +4,4 @@ pub mod Packet
 pub mod KeyRecord
 pub mod Parts
 pub mod Effects
+pub mod AesGcm
