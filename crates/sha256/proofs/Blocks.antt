@@ -53,6 +53,15 @@ hash-on b m whole =
     ∙ ap (absorbed H⁰) (append-assoc b m p)
     ∙ absorbed-append (length b / 64) H⁰ b (m ++ p) count)
 
+-- the same, behind one block
+pub hash-behind : (b m : List ℕ) → length b ≡ 64 → finished (compressed H⁰ b) 64 m ≡ hash (b ++ m)
+hash-behind b m e =
+    let whole : length b % 64 ≡ 0 = omega arith in
+    let none : length (drop 64 b) < 64 = omega (arith, length-drop 64 b) in
+    let one : absorbed H⁰ b ≡ compressed H⁰ b =
+    absorbed-one H⁰ b (omega arith) ∙ absorbed-none (compressed H⁰ (take 64 b)) (drop 64 b) none ∙ ap (compressed H⁰) (take-all 64 b (omega arith)) in
+    sym (hash-on b m whole ∙ ap₂ (λ (h : List ℕ) (n : ℕ). finished h n m) one e)
+
 pub hash-at-once : (m : List ℕ) → finished H⁰ 0 m ≡ hash m
 unfolding hash finished
 hash-at-once m =

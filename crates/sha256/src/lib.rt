@@ -276,7 +276,7 @@ pub fn finish(h: [u32; 8], earlier: u64, rest: &[u8]) -> [u8; 32]
 }
 
 // Section 6.2: SHA-256 of a message.
-pub fn sha256(message: &[u8]) -> [u8; 32]
+pub fn hash(message: &[u8]) -> [u8; 32]
     requires { ⌜ 8 * length (now message) < 2 ^ 64 ⌝ }
     ensures { λ r. ⌜ r ≡ hash (now (message .entry)) ⌝ }
 {
