@@ -26,9 +26,10 @@ impl Receiver {
     /// Whether a number in so many bytes stands within the window in which appendix A.3 of RFC 9000 recovers it:
     /// half a window below what is expected, exclusive, to half a window above it, inclusive.
     pub fn recovers(&self, number: u64, number_length: usize) -> bool {
+        let in_range = number < NUMBER_LIMIT && self.expected() <= NUMBER_LIMIT;
         let (number, expected) = (i128::from(number), i128::from(self.expected()));
         let half_window = 1 << (8 * number_length - 1);
-        (expected - half_window + 1..=expected + half_window).contains(&number) && number < i128::from(NUMBER_LIMIT)
+        in_range && (expected - half_window + 1..=expected + half_window).contains(&number)
     }
 
     /// One arrival.
