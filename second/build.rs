@@ -1,4 +1,4 @@
-//! Links the comparing program with libdriftwicket.a.
+//! Says where libdriftwicket.a is, which the comparing program links (src/library.rs).
 //!
 //! The directory is DRIFTWICKET_LIB_DIR, or ../target/staticlib, where `make lib` puts it; a relative one is taken from
 //! this package. Only the program is linked: the library target and its tests build where the archive is missing.
@@ -13,10 +13,11 @@ fn main() {
     println!("cargo:rustc-check-cfg=cfg(driftwicket_missing)");
     let package = env::var("CARGO_MANIFEST_DIR").expect("cargo names the package's directory");
     let directory = env::var("DRIFTWICKET_LIB_DIR").unwrap_or_else(|_| "../target/staticlib".to_string());
-    let archive = Path::new(&package).join(directory).join(ARCHIVE);
+    let directory = Path::new(&package).join(directory);
+    let archive = directory.join(ARCHIVE);
     println!("cargo:rerun-if-changed={}", archive.display());
     if archive.is_file() {
-        println!("cargo:rustc-link-arg-bins={}", archive.display());
+        println!("cargo:rustc-link-search=native={}", directory.display());
     } else {
         // main.rs turns this into a compile error that says what to do
         println!("cargo:rustc-cfg=driftwicket_missing");

@@ -21,6 +21,14 @@ impl<const WORDS: usize> Effect<WORDS> {
         self.answer.err().unwrap_or(0)
     }
 
+    /// The answer in words.
+    pub fn words(&self) -> String {
+        match self.answer {
+            Ok(report) => format!("answered {report:?}"),
+            Err(number) => format!("refused, {number}"),
+        }
+    }
+
     /// What differs from another program's effect of the same call, in words.
     pub fn differences(&self, other: &Effect<WORDS>) -> Vec<String> {
         let mut lines = Vec::new();
@@ -28,11 +36,11 @@ impl<const WORDS: usize> Effect<WORDS> {
             lines.push("the answer".to_string());
         }
         if self.expected != other.expected {
-            lines.push(format!("the expected number: {} or {}", self.expected, other.expected));
+            lines.push(format!("the expected number ({:#x} or {:#x})", self.expected, other.expected));
         }
         let first = self.output.iter().zip(&other.output).position(|(ours, theirs)| ours != theirs);
         if let Some(at) = first {
-            lines.push(format!("the output from byte {at}: {:02x} or {:02x}", self.output[at], other.output[at]));
+            lines.push(format!("the output from byte {at} ({:02x} or {:02x})", self.output[at], other.output[at]));
         }
         lines.extend(other.strays.iter().map(|stray| stray.to_string()));
         lines

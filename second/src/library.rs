@@ -5,6 +5,7 @@
 
 use crate::effect::Effect;
 
+#[link(name = "driftwicket", kind = "static")]
 extern "C" {
     fn dw_read_integer(bytes: *const u8, len: usize, report: *mut u64) -> u32;
     fn dw_smallest_length(number: u64, any_acknowledged: u32, acknowledged: u64, report: *mut u64) -> u32;

@@ -39,16 +39,17 @@ struct Options {
 }
 
 /// Reads `[TIMES] [--seed SEED]`.
-fn options(arguments: impl Iterator<Item = String>) -> Option<Options> {
-    let mut options = Options { times: 1, seed: SEED };
-    let mut arguments = arguments.peekable();
-    if let Some(times) = arguments.next_if(|argument| argument != "--seed") {
-        options.times = times.parse().ok().filter(|times| *times > 0)?;
-    }
-    if arguments.next().is_some() {
-        options.seed = arguments.next()?.parse().ok()?;
-    }
-    arguments.next().is_none().then_some(options)
+fn options(arguments: &[String]) -> Option<Options> {
+    let (times, rest) = match arguments {
+        [times, rest @ ..] if times != "--seed" => (times.parse().ok()?, rest),
+        rest => (1, rest),
+    };
+    let seed = match rest {
+        [] => SEED,
+        [name, seed] if name == "--seed" => seed.parse().ok()?,
+        _ => return None,
+    };
+    (times > 0).then_some(Options { times, seed })
 }
 
 /// Compares one entry point, part by part, and says what it did.
@@ -57,24 +58,28 @@ fn compare_entry(entry: &Entry, options: &Options) -> Tally {
     let start = Instant::now();
     let mut tally = Tally::new(entry.name, options.seed);
     for (words, part) in entry.parts {
-        let before = tally.count();
+        let (count, failed) = (tally.count(), tally.failed);
+        tally.begin_part();
         for time in 0..options.times {
             let mut random = Random::new(options.seed, &format!("{} {words} {time}", entry.name));
             part(&mut tally, &mut random);
         }
-        println!("  {:>9} {words}", tally.count() - before);
+        let failed = tally.failed - failed;
+        let failures = if failed > 0 { format!(": {failed} FAILED") } else { String::new() };
+        println!("  {:>9} {words}{failures}", tally.count() - count);
     }
     let seconds = start.elapsed().as_secs_f64();
     println!("  {:>9} in {seconds:.1} s: {}", tally.count(), tally.summary());
     for number in tally.not_reached(entry) {
-        println!("  NOT REACHED: no call was answered {number}, which shows nothing about it");
+        println!("  NOT REACHED: no call was answered {number}, so nothing is shown of it");
         tally.failed += 1;
     }
     tally
 }
 
 fn main() -> ExitCode {
-    let Some(options) = options(env::args().skip(1)) else {
+    let arguments: Vec<String> = env::args().skip(1).collect();
+    let Some(options) = options(&arguments) else {
         eprintln!("usage: second [TIMES] [--seed SEED]");
         return ExitCode::from(2);
     };

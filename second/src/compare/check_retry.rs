@@ -1,6 +1,7 @@
 //! `dw_check_retry`: RFC 9000 section 17.2.5, RFC 9001 section 5.8.
 
 use super::damage;
+use super::faults::{put_in, small_sets, Fault};
 use super::sample::{self, MILLION, VERSIONS};
 use super::write_retry::WriteRetry;
 use super::{Call, Entry, Hex, Tally};
@@ -19,7 +20,7 @@ pub const ENTRY: Entry = Entry {
         ("0 to 40 bytes behind the source ID, and bytes behind the packet", token_lengths),
         ("original IDs that are others", originals),
         ("every first byte, and versions that are one bit off", starts),
-        ("every fault, every two and larger sets", faults),
+        ("every fault, every two and larger sets", fault_sets),
         ("random bytes behind a good start", rubbish),
         ("datagrams around 1,500 bytes, of a million and more", large),
     ],
@@ -177,10 +178,8 @@ impl Arrival {
     }
 }
 
-/// A fault and the refusal that it earns, in document 01's order. Each changes bytes or cuts, and none moves a field.
-type Fault = (u32, fn(&mut Arrival, &mut Random));
-
-const FAULTS: [Fault; 18] = [
+/// In document 01's order: 5 (original), 1, 2, the fields, 3, 13, 11. Each changes bytes or cuts, and none moves a field.
+const FAULTS: [Fault<Arrival>; 18] = [
     (5, |arrival, random| arrival.original = sample::long_id(random).to_vec()),
     (1, |arrival, _| arrival.datagram.clear()),
     (1, |arrival, random| {
@@ -211,29 +210,11 @@ const FAULTS: [Fault; 18] = [
     }),
 ];
 
-/// Every fault alone and with every other, and larger sets, put in from the last to the first, so that each finds the
-/// bytes that it changes. The first one is the answer.
-fn faults(tally: &mut Tally, random: &mut Random) {
-    let mut try_set = |random: &mut Random, mut places: Vec<usize>| {
-        places.sort_unstable();
-        places.dedup();
+fn fault_sets(tally: &mut Tally, random: &mut Random) {
+    for set in small_sets(FAULTS.len(), 40, random) {
         let mut arrival = Arrival::valid(random);
-        for place in places.iter().rev() {
-            FAULTS[*place].1(&mut arrival, random);
-        }
-        let call = CheckRetry { original: &arrival.original, datagram: &arrival.datagram };
-        tally.compare_knowing(&call, FAULTS[places[0]].0);
-    };
-    for first in 0..FAULTS.len() {
-        for second in first..FAULTS.len() {
-            for _ in 0..40 {
-                try_set(random, vec![first, second]);
-            }
-        }
-    }
-    for _ in 0..4_000 {
-        let places = (0..random.between(3..=6)).map(|_| random.between(0..=FAULTS.len() - 1)).collect();
-        try_set(random, places);
+        let known = put_in(&FAULTS, &set, &mut arrival, random);
+        tally.compare_knowing(&CheckRetry { original: &arrival.original, datagram: &arrival.datagram }, known);
     }
 }
 

@@ -1,176 +1,36 @@
-//! Every fault that an arriving Initial can have, in the order in which document 01 judges them.
+//! Calls with several faults at once. Their answer is known: it is the refusal that document 01's order judges first.
 
-use super::draft::{expected_for, Draft, Fields, Id};
-use super::sample::{self, VERSIONS};
 use crate::random::Random;
-use second::header::{FIXED_BIT, FORM_BIT, RESERVED_BITS, TYPE_BITS};
-use second::keys::Keys;
-use second::numbers::NUMBER_LIMIT;
 
-/// An arrival with everything that decides about its opening.
-pub struct Arrival {
-    pub record: [u8; 48],
-    pub expected: u64,
-    pub draft: Draft,
-    /// how many bytes the output lacks
-    short_of_room: usize,
-    /// where the datagram ends too early
-    cut: Option<fn(&Fields) -> usize>,
-    /// a size that the datagram is brought to
-    resized: Option<usize>,
-    /// a bit of the tag that is turned over
-    tag_damage: Option<usize>,
+/// The refusal that a fault earns, and how it is put into a call. A list of them stands in the order of judgement.
+pub type Fault<T> = (u32, fn(&mut T, &mut Random));
+
+/// Puts a set of faults in, from the last to the first, so that an earlier one finds what it changes and stays as it was
+/// put in. Answers the refusal that the first earns, or 0 for no fault.
+pub fn put_in<T>(faults: &[Fault<T>], set: &[usize], subject: &mut T, random: &mut Random) -> u32 {
+    for place in set.iter().rev() {
+        faults[*place].1(subject, random);
+    }
+    set.first().map_or(0, |first| faults[*first].0)
 }
 
-impl Arrival {
-    /// A good packet, in which no part is empty and the sample doesn't reach into the tag.
-    pub fn valid(random: &mut Random) -> Arrival {
-        let version = sample::known_version(random);
-        let (token, payload) = (random.between(1..=70), random.between(20..=70));
-        let mut draft = Draft::valid(random, version, token, payload);
-        let (destination, source) = (random.between(1..=20), random.between(1..=20));
-        draft.destination = Id::new(random.bytes(destination));
-        draft.source = Id::new(random.bytes(source));
-        Arrival {
-            record: sample::record(random, version),
-            expected: expected_for(random, draft.number, draft.number_length),
-            draft,
-            short_of_room: 0,
-            cut: None,
-            resized: None,
-            tag_damage: None,
-        }
-    }
-
-    pub fn datagram(&self, random: &mut Random) -> Vec<u8> {
-        let mut datagram = self.draft.packet(&Keys::from_record(&self.record));
-        if let Some(bit) = self.tag_damage {
-            let tag = datagram.len() - 16;
-            datagram[tag + bit / 8] ^= 1 << (bit % 8);
-        }
-        if let Some(cut) = self.cut {
-            datagram.truncate(cut(&self.draft.fields()));
-        }
-        if let Some(size) = self.resized {
-            let more = size.saturating_sub(datagram.len());
-            datagram.extend(random.bytes(more));
-            datagram.truncate(size);
-        }
-        datagram
-    }
-
-    /// The output that is lent: as large as the answer, or too small.
-    pub fn output(&self, random: &mut Random) -> Vec<u8> {
-        let plain = self.draft.fields().number + self.draft.number_length + self.draft.payload.len();
-        let more = if self.short_of_room == 0 { random.pick(&[0, 0, 1, 16, 20]) } else { 0 };
-        random.bytes((plain + more).saturating_sub(self.short_of_room))
-    }
+/// Every set of some faults.
+pub fn every_set(count: usize) -> Vec<Vec<usize>> {
+    let members = |set: usize| (0..count).filter(|place| set >> place & 1 == 1).collect();
+    (0..1 << count).map(members).collect()
 }
 
-/// The refusal that a fault earns, and how it is put in.
-type Fault = (u32, fn(&mut Arrival, &mut Random));
-
-/// What the caller may have wrong: 10 (expected), then 4 (the keys' version).
-const CALLER: [Fault; 2] = [
-    (10, |arrival, random| arrival.expected = NUMBER_LIMIT + 1 + (random.word() >> 2 >> random.below(62))),
-    (4, |arrival, random| {
-        let version = sample::unknown_version(random);
-        arrival.record = sample::record(random, version);
-    }),
-];
-
-/// From 1 to the last 3: what header reading judges too.
-pub const HEADER: [Fault; 21] = [
-    (1, |arrival, _| arrival.resized = Some(0)),
-    (1, |arrival, random| arrival.resized = Some(random.between(1_501..=1_520))),
-    (2, |arrival, _| arrival.draft.first &= !FORM_BIT),
-    (2, |arrival, _| arrival.draft.first &= !FIXED_BIT),
-    (3, |arrival, random| arrival.cut = Some(random.pick::<fn(&Fields) -> usize>(&[|_| 1, |_| 2, |_| 3, |_| 4]))),
-    (4, |arrival, random| arrival.draft.version = sample::unknown_version(random)),
-    (6, |arrival, random| arrival.draft.first ^= random.pick(&[0x10, 0x20, 0x30]) & TYPE_BITS),
-    (3, |arrival, _| arrival.cut = Some(|fields| fields.destination_length)),
-    (5, |arrival, random| arrival.draft.destination = long_id(random)),
-    (3, |arrival, _| arrival.cut = Some(|fields| fields.destination)),
-    (3, |arrival, _| arrival.cut = Some(|fields| fields.source_length - 1)),
-    (3, |arrival, _| arrival.cut = Some(|fields| fields.source_length)),
-    (5, |arrival, random| arrival.draft.source = long_id(random)),
-    (3, |arrival, _| arrival.cut = Some(|fields| fields.token_length - 1)),
-    (3, |arrival, _| arrival.cut = Some(|fields| fields.token - 1)),
-    (3, |arrival, random| {
-        let claim = random.pick(&[1_500, 16_384, 1 << 31, (1 << 32) + arrival.draft.token_claimed, (1 << 62) - 1]);
-        arrival.draft.claim_token(random, claim);
-    }),
-    (3, |arrival, _| arrival.cut = Some(|fields| fields.length - 1)),
-    (3, |arrival, _| arrival.cut = Some(|fields| fields.number - 1)),
-    (7, |arrival, random| {
-        let claim = random.below(20);
-        arrival.draft.claim_length(random, claim);
-    }),
-    (3, |arrival, random| {
-        let length = arrival.draft.length();
-        let claim = random.pick(&[length + 1, length + 1, 1_500, 16_384, (1 << 32) + length, (1 << 62) - 1]);
-        arrival.draft.claim_length(random, claim);
-    }),
-    (3, |arrival, _| arrival.cut = Some(|fields| fields.number + 20)),
-];
-
-/// What only keys can tell: 8, 9, 10 (recovered), 11.
-const PROTECTION: [Fault; 4] = [
-    (8, |arrival, random| arrival.short_of_room = random.pick(&[1, 1, 2, 16, 1_000])),
-    (9, |arrival, random| arrival.draft.first |= random.pick(&[0x04, 0x08, 0x0c]) & RESERVED_BITS),
-    (10, |arrival, random| {
-        arrival.expected = NUMBER_LIMIT;
-        arrival.draft.number = NUMBER_LIMIT + random.pick(&[0, 1, 64, 127, 128]);
-    }),
-    (11, |arrival, random| arrival.tag_damage = Some(random.between(0..=127))),
-];
-
-/// A connection ID that claims more than 20 bytes, which may stand there or not.
-fn long_id(random: &mut Random) -> Id {
-    let claimed = random.pick(&[21, 22, 64, 128, 255]);
-    let length = random.pick(&[1, 2, 20, usize::from(claimed)]);
-    Id { claimed, bytes: random.bytes(length) }
-}
-
-/// Every fault of opening, in its order. A version that is known and not the keys' is refused where an unknown one is.
-pub fn of_opening() -> Vec<Fault> {
-    let mut faults = [&CALLER[..], &HEADER, &PROTECTION].concat();
-    let unknown_version = CALLER.len() + 5;
-    faults.insert(
-        unknown_version,
-        (4, |arrival, _| arrival.draft.version = VERSIONS[0] ^ VERSIONS[1] ^ arrival.draft.version),
-    );
-    faults
-}
-
-/// Arrivals with every fault alone, with every two at once, and with larger sets, each several times; with the refusal
-/// that the first fault in the order earns.
-pub fn sets(faults: &[Fault], random: &mut Random, mut with: impl FnMut(&Arrival, u32, &mut Random)) {
-    for first in 0..faults.len() {
-        for second in first..faults.len() {
-            for _ in 0..24 {
-                let mut arrival = Arrival::valid(random);
-                let known = put_in(faults, &[first, second], &mut arrival, random);
-                with(&arrival, known, random);
-            }
-        }
+/// Each fault alone and every two, so many times, and as many larger sets as that makes.
+pub fn small_sets(count: usize, times: usize, random: &mut Random) -> Vec<Vec<usize>> {
+    let twos = (0..count).flat_map(|first| (first..count).map(move |second| vec![first, second]));
+    let mut sets: Vec<Vec<usize>> = twos.flat_map(|set| vec![set; times]).collect();
+    for _ in 0..sets.len() {
+        let places = random.between(3..=6);
+        sets.push((0..places).map(|_| random.between(0..=count - 1)).collect());
     }
-    for _ in 0..6_000 {
-        let mut arrival = Arrival::valid(random);
-        let places: Vec<usize> = (0..random.between(3..=6)).map(|_| random.between(0..=faults.len() - 1)).collect();
-        let known = put_in(faults, &places, &mut arrival, random);
-        with(&arrival, known, random);
+    for set in &mut sets {
+        set.sort_unstable();
+        set.dedup();
     }
-}
-
-/// Puts the faults at some places into an arrival, from the last to the first, so that an earlier one stays as it was put
-/// in. Answers the refusal that the first earns.
-fn put_in(faults: &[Fault], places: &[usize], arrival: &mut Arrival, random: &mut Random) -> u32 {
-    let mut places = places.to_vec();
-    places.sort_unstable();
-    places.dedup();
-    for place in places.iter().rev() {
-        faults[*place].1(arrival, random);
-    }
-    faults[places[0]].0
+    sets
 }

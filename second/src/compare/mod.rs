@@ -1,5 +1,6 @@
 //! The comparisons, by entry point: each call is made by both programs, and the whole effect of one must be the other's.
 
+mod arrival;
 mod check_retry;
 mod damage;
 mod draft;
@@ -10,11 +11,13 @@ mod read_header;
 mod read_integer;
 mod receiver;
 mod recover;
-
 mod sample;
 mod seal;
 mod shorten;
+mod tally;
 mod write_retry;
+
+pub use tally::Tally;
 
 use crate::effect::Effect;
 use crate::random::Random;
@@ -52,110 +55,6 @@ pub const ENTRIES: [&Entry; 10] = [
     &write_retry::ENTRY,
     &check_retry::ENTRY,
 ];
-
-/// The greatest refusal's number.
-const LAST_REFUSAL: usize = 14;
-
-/// How many differences of one entry point are printed; the others are counted.
-const PRINTED: u64 = 20;
-
-/// The count of one entry point's comparisons.
-pub struct Tally {
-    name: &'static str,
-    seed: u64,
-    pub passed: u64,
-    pub failed: u64,
-    /// how often the second program answered 0, 1, 2, ..
-    answers: [u64; LAST_REFUSAL + 1],
-}
-
-impl Tally {
-    pub fn new(name: &'static str, seed: u64) -> Tally {
-        Tally { name, seed, passed: 0, failed: 0, answers: [0; LAST_REFUSAL + 1] }
-    }
-
-    pub fn count(&self) -> u64 {
-        self.passed + self.failed
-    }
-
-    /// Makes a call in both programs, compares their effects, and hands on the second program's.
-    pub fn compare<const WORDS: usize>(&mut self, call: &impl Call<WORDS>) -> Effect<WORDS> {
-        self.compare_if(call, |_| true, "")
-    }
-
-    /// Compares a call whose answer is known from how it was made: 0, or the first of its faults in document 01's order.
-    /// Then the second program is held to it as well.
-    pub fn compare_knowing<const WORDS: usize>(&mut self, call: &impl Call<WORDS>, known: u32) -> Effect<WORDS> {
-        self.compare_if(call, |ours| ours.number() == known, &format!("{known}"))
-    }
-
-    /// Compares a call whose whole report is known from how it was made.
-    pub fn compare_yielding<const WORDS: usize>(
-        &mut self,
-        call: &impl Call<WORDS>,
-        report: [u64; WORDS],
-    ) -> Effect<WORDS> {
-        self.compare_if(call, |ours| ours.answer == Ok(report), &format!("{report:?}"))
-    }
-
-    /// Compares a call of which something is known, and holds the second program to it.
-    pub fn compare_if<const WORDS: usize>(
-        &mut self,
-        call: &impl Call<WORDS>,
-        as_made: impl FnOnce(&Effect<WORDS>) -> bool,
-        known: &str,
-    ) -> Effect<WORDS> {
-        let (ours, theirs) = (call.ours(), call.theirs());
-        let as_made = as_made(&ours);
-        self.judge(as_made && ours == theirs, &ours, || {
-            let difference = Self::difference(call, &ours, &theirs);
-            if as_made {
-                difference
-            } else {
-                format!("{difference}\n  THE SECOND PROGRAM IS WRONG: the call was made to answer {known}")
-            }
-        });
-        ours
-    }
-
-    fn judge<const WORDS: usize>(&mut self, same: bool, ours: &Effect<WORDS>, words: impl FnOnce() -> String) {
-        self.answers[ours.number() as usize] += 1;
-        if same {
-            self.passed += 1;
-            return;
-        }
-        self.failed += 1;
-        if self.failed <= PRINTED {
-            println!("  DIFFERENCE in {}, seed {}, comparison {}\n{}", self.name, self.seed, self.count(), words());
-        }
-        if self.failed == PRINTED {
-            println!("  further differences in {} are counted and not printed", self.name);
-        }
-    }
-
-    /// The case, what both programs say of it, and where they part.
-    fn difference<const WORDS: usize>(call: &impl Call<WORDS>, ours: &Effect<WORDS>, theirs: &Effect<WORDS>) -> String {
-        format!(
-            "  case: {call}\n  second:  {:?}\n  library: {:?}\n  they differ in: {}",
-            ours.answer,
-            theirs.answer,
-            ours.differences(theirs).join("; "),
-        )
-    }
-
-    /// How often each answer came.
-    pub fn summary(&self) -> String {
-        let refused = (1..=LAST_REFUSAL).filter(|number| self.answers[*number] > 0);
-        let refused: Vec<String> = refused.map(|number| format!("{number}: {}", self.answers[number])).collect();
-        format!("answered {}, refused {}", self.answers[0], refused.join(", "))
-    }
-
-    /// The answers that an entry point can give and that no call brought about.
-    pub fn not_reached(&self, entry: &Entry) -> Vec<u32> {
-        let possible = [0].iter().chain(entry.refusals);
-        possible.copied().filter(|number| self.answers[*number as usize] == 0).collect()
-    }
-}
 
 /// Bytes as a case prints them: hex, and only the start of what no datagram could hold.
 pub struct Hex<'a>(pub &'a [u8]);

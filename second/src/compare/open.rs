@@ -1,8 +1,9 @@
 //! `dw_open`: RFC 9001 sections 5.3 and 5.4, RFC 9000 appendix A.3.
 
+use super::arrival::{opening_faults, Arrival};
 use super::damage::{self, Sealed};
 use super::draft::{expected_for, Draft};
-use super::faults;
+use super::faults::{put_in, small_sets};
 use super::receiver;
 use super::sample::{self, near, MILLION, VERSIONS};
 use super::{Call, Entry, Hex, Tally};
@@ -22,7 +23,8 @@ pub const ENTRY: Entry = Entry {
         ("every truncation and every bit of sealed packets", damaged),
         ("outputs of no byte, one short, exact and longer", rooms),
         ("bytes behind the packet, datagrams around 1,500 bytes, of a million and more", behind),
-        ("every form of token length and Length, and any claims", forms),
+        ("every form of token length and Length", forms),
+        ("token lengths and Lengths that are a little off, far off or anything", claims),
         ("expected numbers around every window's edges", windows),
         ("every fault, every two and larger sets", fault_sets),
         ("keys that are one bit off", other_keys),
@@ -139,30 +141,35 @@ fn behind(tally: &mut Tally, random: &mut Random) {
     }
 }
 
-fn forms(tally: &mut Tally, random: &mut Random) {
-    let with = |tally: &mut Tally, random: &mut Random, version, draft: Draft, known: Option<[u64; 5]>| {
-        let sealed = Sealed::new(random, version, draft);
-        let expected = expected_of(random, &sealed);
-        let (behind, output) = (random.pick(&[0, 0, 1, 3, 40]), random.bytes(sealed.packet.len() + 40));
-        let datagram = [&sealed.packet[..], &random.bytes(behind)].concat();
-        let call = Open { keys: &sealed.record, expected, datagram: &datagram, output: &output };
-        match known {
-            Some(report) => tally.compare_yielding(&call, report),
-            None => tally.compare(&call),
-        };
+/// Compares the opening of a draft with some bytes behind it.
+fn open_draft(tally: &mut Tally, random: &mut Random, draft: Draft, known: Option<[u64; 5]>) {
+    let sealed = Sealed::new(random, draft.version, draft);
+    let expected = expected_of(random, &sealed);
+    let behind = random.pick(&[0, 0, 1, 3, 40]);
+    let datagram = [&sealed.packet[..], &random.bytes(behind)].concat();
+    let output = random.bytes(datagram.len());
+    let call = Open { keys: &sealed.record, expected, datagram: &datagram, output: &output };
+    match known {
+        Some(report) => tally.compare_yielding(&call, report),
+        None => tally.compare(&call),
     };
-    for version in VERSIONS {
-        for (token_form, length_form) in FORMS.into_iter().flat_map(|token| FORMS.map(|length| (token, length))) {
-            for number_length in 1..=4 {
-                let largest_token = if token_form == 1 { 63 } else { 70 };
-                let token = random.between(0..=largest_token);
+}
+
+fn forms(tally: &mut Tally, random: &mut Random) {
+    for (token_form, length_form) in FORMS.into_iter().flat_map(|token| FORMS.map(|length| (token, length))) {
+        for (version, number_length) in VERSIONS.into_iter().flat_map(|version| [1, 2, 3, 4].map(|n| (version, n))) {
+            for _ in 0..8 {
+                let token = random.between(0..=if token_form == 1 { 63 } else { 70 });
                 let mut draft = Draft::valid(random, version, token, 20);
                 (draft.token_form, draft.length_form, draft.number_length) = (token_form, length_form, number_length);
                 let known = report(&draft);
-                with(tally, random, version, draft, Some(known));
+                open_draft(tally, random, draft, Some(known));
             }
         }
     }
+}
+
+fn claims(tally: &mut Tally, random: &mut Random) {
     for _ in 0..16_000 {
         let version = sample::known_version(random);
         let (token, payload) = (random.pick(&[0, 1, 20, 63, 64, 100]), random.between(3..=30));
@@ -174,7 +181,7 @@ fn forms(tally: &mut Tally, random: &mut Random) {
             let claim = sample::claim(random, draft.length());
             draft.claim_length(random, claim);
         }
-        with(tally, random, version, draft, None);
+        open_draft(tally, random, draft, None);
     }
 }
 
@@ -204,11 +211,14 @@ fn windows(tally: &mut Tally, random: &mut Random) {
 }
 
 fn fault_sets(tally: &mut Tally, random: &mut Random) {
-    faults::sets(&faults::of_opening(), random, |arrival, known, random| {
+    let faults = opening_faults();
+    for set in small_sets(faults.len(), 32, random) {
+        let mut arrival = Arrival::valid(random);
+        let known = put_in(&faults, &set, &mut arrival, random);
         let (datagram, output) = (arrival.datagram(random), arrival.output(random));
         let call = Open { keys: &arrival.record, expected: arrival.expected, datagram: &datagram, output: &output };
         tally.compare_knowing(&call, known);
-    });
+    }
 }
 
 /// Every bit of the key record matters.

@@ -1,8 +1,9 @@
 //! `dw_read_header`: RFC 9000 section 17.2.2.
 
+use super::arrival::{Arrival, HEADER_FAULTS};
 use super::damage::{self, Sealed};
 use super::draft::Draft;
-use super::faults;
+use super::faults::{put_in, small_sets};
 use super::sample::{self, MILLION, VERSIONS};
 use super::{Call, Entry, Hex, Tally};
 use crate::effect::Effect;
@@ -16,7 +17,7 @@ pub const ENTRY: Entry = Entry {
     parts: &[
         ("every truncation and every bit of sealed packets", damaged),
         ("every first byte, and versions that are one bit off", starts),
-        ("every form of token length and Length, with any claims", claims),
+        ("token lengths and Lengths in every form, right, a little off, far off or anything", claims),
         ("every fault, every two and larger sets", fault_sets),
         ("random bytes behind a good start", rubbish),
         ("datagrams around 1,500 bytes, of a million and more", large),
@@ -108,11 +109,12 @@ fn claims(tally: &mut Tally, random: &mut Random) {
     }
 }
 
-/// Every fault alone and with every other, and larger sets; the first in the order is the answer.
 fn fault_sets(tally: &mut Tally, random: &mut Random) {
-    faults::sets(&faults::HEADER, random, |arrival, known, random| {
+    for set in small_sets(HEADER_FAULTS.len(), 32, random) {
+        let mut arrival = Arrival::valid(random);
+        let known = put_in(&HEADER_FAULTS, &set, &mut arrival, random);
         tally.compare_knowing(&ReadHeader(&arrival.datagram(random)), known);
-    });
+    }
 }
 
 /// Bytes that start as an Initial does, so that something is read before they are refused.

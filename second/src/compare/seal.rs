@@ -1,5 +1,6 @@
 //! `dw_seal`: RFC 9001 sections 5.3 and 5.4.
 
+use super::faults::{every_set, put_in, Fault};
 use super::sample::{self, Bytes, MILLION, WRONG_LENGTHS};
 use super::shorten::Gap;
 use super::{Call, Entry, Hex, Tally};
@@ -22,7 +23,7 @@ pub const ENTRY: Entry = Entry {
         ("the smallest payloads beside every number's length", small_payloads),
         ("outputs of no byte, one short, exact and longer", rooms),
         ("gaps and lengths", gaps),
-        ("every set of faults", faults),
+        ("every set of faults", fault_sets),
         ("any arguments", any),
         ("slices of a million bytes and more", huge),
     ],
@@ -203,10 +204,8 @@ fn gaps(tally: &mut Tally, random: &mut Random) {
     }
 }
 
-/// A fault and the refusal that it earns, in document 01's order.
-type Fault = (u32, fn(&mut Seal, &mut Random));
-
-const FAULTS: [Fault; 8] = [
+/// In document 01's order: 4, 10, 14, 12, 5, 7, 1, 8.
+const FAULTS: [Fault<Seal>; 8] = [
     (4, |call, random| {
         let version = sample::unknown_version(random);
         call.keys = sample::record(random, version);
@@ -248,21 +247,13 @@ const FAULTS: [Fault; 8] = [
     }),
 ];
 
-/// Every set of faults, put in from the last to the first; the first one is the answer.
-fn faults(tally: &mut Tally, random: &mut Random) {
-    for set in 0..1 << FAULTS.len() {
+fn fault_sets(tally: &mut Tally, random: &mut Random) {
+    for set in every_set(FAULTS.len()) {
         for _ in 0..24 {
             let (token, payload) = (random.between(0..=70), random.between(4..=70));
             let mut call = Seal::valid(random, token, payload);
             call.lend_enough(random);
-            let mut known = 0;
-            // sealing's 7 needs a number's length and a payload, so it goes in before those of 12 and 1
-            for (place, (refusal, put_in)) in FAULTS.iter().enumerate().rev() {
-                if set >> place & 1 == 1 {
-                    put_in(&mut call, random);
-                    known = *refusal;
-                }
-            }
+            let known = put_in(&FAULTS, &set, &mut call, random);
             tally.compare_knowing(&call, known);
         }
     }

@@ -1,5 +1,6 @@
 //! `dw_write_retry`: RFC 9000 section 17.2.5, RFC 9001 section 5.8.
 
+use super::faults::{every_set, put_in, Fault};
 use super::sample::{self, Bytes, MILLION};
 use super::{Call, Entry, Hex, Tally};
 use crate::effect::Effect;
@@ -14,7 +15,7 @@ pub const ENTRY: Entry = Entry {
     parts: &[
         ("tokens of every size", token_sizes),
         ("outputs of no byte, one short, exact and longer", rooms),
-        ("every set of faults", faults),
+        ("every set of faults", fault_sets),
         ("any arguments", any),
         ("slices of a million bytes and more", huge),
     ],
@@ -126,10 +127,8 @@ fn rooms(tally: &mut Tally, random: &mut Random) {
     }
 }
 
-/// A fault and the refusal that it earns, in document 01's order.
-type Fault = (u32, fn(&mut WriteRetry, &mut Random));
-
-const FAULTS: [Fault; 7] = [
+/// In document 01's order: 4, 5 (original, destination, source), 13, 1, 8.
+const FAULTS: [Fault<WriteRetry>; 7] = [
     (4, |call, random| call.version = sample::unknown_version(random)),
     (5, |call, random| call.original = sample::long_id(random)),
     (5, |call, random| call.destination = sample::long_id(random)),
@@ -145,19 +144,12 @@ const FAULTS: [Fault; 7] = [
     }),
 ];
 
-/// Every set of faults, put in from the last to the first; the first one is the answer.
-fn faults(tally: &mut Tally, random: &mut Random) {
-    for set in 0..1 << FAULTS.len() {
+fn fault_sets(tally: &mut Tally, random: &mut Random) {
+    for set in every_set(FAULTS.len()) {
         for _ in 0..40 {
             let token = random.between(1..=70);
             let mut call = WriteRetry::valid(random, token);
-            let mut known = 0;
-            for (place, (refusal, put_in)) in FAULTS.iter().enumerate().rev() {
-                if set >> place & 1 == 1 {
-                    put_in(&mut call, random);
-                    known = *refusal;
-                }
-            }
+            let known = put_in(&FAULTS, &set, &mut call, random);
             tally.compare_knowing(&call, known);
         }
     }
