@@ -5,9 +5,12 @@ use super::draft::{expected_for, Draft, Fields, Id};
 use super::faults::Fault;
 use super::sample::{self, VERSIONS};
 use crate::random::Random;
-use second::header::{FIXED_BIT, FORM_BIT, RESERVED_BITS, TYPE_BITS};
+use second::header::{FIXED_BIT, FORM_BIT};
 use second::keys::Keys;
 use second::numbers::NUMBER_LIMIT;
+
+/// How many bytes are left of a packet with such fields.
+type Cut = fn(&Fields) -> usize;
 
 /// An arrival with everything that decides about its opening.
 pub struct Arrival {
@@ -17,7 +20,7 @@ pub struct Arrival {
     /// how many bytes the output lacks
     short_of_room: usize,
     /// where the datagram ends too early
-    cut: Option<fn(&Fields) -> usize>,
+    cut: Option<Cut>,
     /// a size that the datagram is brought to
     resized: Option<usize>,
     /// a bit of the tag that is turned over
@@ -78,28 +81,34 @@ const CALLER_FAULTS: [Fault<Arrival>; 2] = [
     }),
 ];
 
-/// From 1 to the last 3: what header reading judges too.
+/// From 1 to the last 3: what header reading judges too. Each field is missing before it is wrong.
 pub const HEADER_FAULTS: [Fault<Arrival>; 21] = [
+    // the datagram's size, then the form and the fixed bit
     (1, |arrival, _| arrival.resized = Some(0)),
     (1, |arrival, random| arrival.resized = Some(random.between(1_501..=1_520))),
     (2, |arrival, _| arrival.draft.first &= !FORM_BIT),
     (2, |arrival, _| arrival.draft.first &= !FIXED_BIT),
-    (3, |arrival, random| arrival.cut = Some(random.pick::<fn(&Fields) -> usize>(&[|_| 1, |_| 2, |_| 3, |_| 4]))),
+    // the version, and then the type
+    (3, |arrival, random| arrival.cut = Some(random.pick::<Cut>(&[|_| 1, |_| 2, |_| 3, |_| 4]))),
     (4, |arrival, random| arrival.draft.version = sample::unknown_version(random)),
-    (6, |arrival, random| arrival.draft.first ^= random.pick(&[0x10, 0x20, 0x30]) & TYPE_BITS),
+    (6, |arrival, random| arrival.draft.first ^= random.pick(&[0x10, 0x20, 0x30])),
+    // the destination ID's length, and its bytes: none of them, or all but one
     (3, |arrival, _| arrival.cut = Some(|fields| fields.destination_length)),
     (5, |arrival, random| arrival.draft.destination = long_id(random)),
     (3, |arrival, _| arrival.cut = Some(|fields| fields.destination)),
     (3, |arrival, _| arrival.cut = Some(|fields| fields.source_length - 1)),
+    // the source ID's
     (3, |arrival, _| arrival.cut = Some(|fields| fields.source_length)),
     (5, |arrival, random| arrival.draft.source = long_id(random)),
     (3, |arrival, _| arrival.cut = Some(|fields| fields.token_length - 1)),
+    // the token's length without its last byte, a token that cannot be there, and one without its last byte
     (3, |arrival, _| arrival.cut = Some(|fields| fields.token - 1)),
     (3, |arrival, random| {
         let claim = random.pick(&[1_500, 16_384, 1 << 31, (1 << 32) + arrival.draft.token_claimed, (1 << 62) - 1]);
         arrival.draft.claim_token(random, claim);
     }),
     (3, |arrival, _| arrival.cut = Some(|fields| fields.length - 1)),
+    // Length without its last byte, too small, and past the datagram's end
     (3, |arrival, _| arrival.cut = Some(|fields| fields.number - 1)),
     (7, |arrival, random| {
         let claim = random.below(20);
@@ -116,7 +125,7 @@ pub const HEADER_FAULTS: [Fault<Arrival>; 21] = [
 /// What only keys can tell: 8, 9, 10 (recovered), 11.
 const PROTECTION_FAULTS: [Fault<Arrival>; 4] = [
     (8, |arrival, random| arrival.short_of_room = random.pick(&[1, 1, 2, 16, 1_000])),
-    (9, |arrival, random| arrival.draft.first |= random.pick(&[0x04, 0x08, 0x0c]) & RESERVED_BITS),
+    (9, |arrival, random| arrival.draft.first |= random.pick(&[0x04, 0x08, 0x0c])),
     (10, |arrival, random| {
         arrival.expected = NUMBER_LIMIT;
         arrival.draft.number = NUMBER_LIMIT + random.pick(&[0, 1, 64, 127, 128]);
@@ -124,7 +133,7 @@ const PROTECTION_FAULTS: [Fault<Arrival>; 4] = [
     (11, |arrival, random| arrival.tag_damage = Some(random.between(0..=127))),
 ];
 
-/// A connection ID that claims more than 20 bytes, which may stand there or not.
+/// A connection ID that claims more than 20 bytes, which stand there or only in part.
 fn long_id(random: &mut Random) -> Id {
     let claimed = random.pick(&[21, 22, 64, 128, 255]);
     let length = random.pick(&[1, 2, 20, usize::from(claimed)]);

@@ -19,7 +19,7 @@ struct Arrival {
 }
 
 pub fn lists(tally: &mut Tally, random: &mut Random) {
-    for _ in 0..500 {
+    for _ in 0..160 {
         let version = sample::known_version(random);
         let record = sample::record(random, version);
         let anywhere = random.below(NUMBER_LIMIT);
@@ -33,9 +33,10 @@ pub fn lists(tally: &mut Tally, random: &mut Random) {
 /// Packets with rising numbers and number lengths that vary.
 fn send(random: &mut Random, record: &[u8; 48], start: u64) -> Vec<Sealed> {
     let keys = Keys::from_record(record);
+    let count = random.between(20..=400);
     let mut number = start;
     let mut packets = Vec::new();
-    while packets.len() < 60 && number < NUMBER_LIMIT {
+    while packets.len() < count && number < NUMBER_LIMIT {
         let payload = random.between(3..=60);
         let mut draft = Draft::valid(random, keys.version, 0, payload);
         draft.number = number;
@@ -134,7 +135,7 @@ fn receive(
         let effect = tally.compare_if(
             &call,
             |ours| as_sent(ours.answer) && ours.expected == after && payload_stands(ours.output.as_slice(), opens),
-            "as the receiver's model tells",
+            "what the receiver's model tells",
         );
         expected = effect.expected;
     }
