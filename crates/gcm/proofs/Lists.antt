@@ -3,11 +3,12 @@ use Prim.Native.Nat.{ℕ, zero, suc, _+_, _-_, _*_, _/_, _%_, _^_, _<_, _≤_}
 use mathlib.Core.Path.{_≡_, refl, sym, ap, ap₂, _∙_}
 use mathlib.Core.Logic.{⊎-elim}
 use mathlib.Core.List.{List, [], _∷_, _++_, append-assoc, append-nil}
-use native.Mathlib.Nat.{add-assoc, add-mul, mul-assoc, mul-comm, pow-suc, eq-or-lt-of-le}
+use native.Mathlib.Nat.{zero-add, suc-add, add-assoc, add-mul, mul-assoc, mul-comm, mul-suc, mul-add-div-right, pow-suc, mod-lt, eq-or-lt-of-le}
 use native.Mathlib.Omega.{arith}
 use lib.Bits.{bitXor}
+use lib.Dec.{lit<}
 use lib.ListN.{length, getD, take, drop, replicate, length-append, length-drop, take-append-drop, drop-of-length-le}
-use lib.Pow.{pow-add}
+use lib.Pow.{pow-add, pow-pos, shr-shr, high as high-part}
 use lib.Seq.{getD-drop, drop-drop, take-add, take-all, take-at, drop-at, length-take-le}
 use Rattle.octets.specs.Octets.{Bytes, bytes, number, xor, laid}
 use Rattle.octets.proofs.Numbers.{readOn, byte-power, number-lt}
@@ -31,6 +32,12 @@ pub append-bytes : (s t : List ℕ) → Bytes s → Bytes t → Bytes (s ++ t)
 append-bytes [] t hs ht i = ht i
 append-bytes (x ∷ s) t hs ht zero = hs 0
 append-bytes (x ∷ s) t hs ht (suc i) = append-bytes s t (λ j. hs (suc j)) ht i
+
+pub bytes-bytes : (k n : ℕ) → Bytes (bytes k n)
+unfolding bytes
+bytes-bytes zero n i = omega arith
+bytes-bytes (suc k) n zero = mod-lt (n / 256 ^ k) (lit< tt)
+bytes-bytes (suc k) n (suc i) = bytes-bytes k n i
 
 -- ---- the number of a joined list
 read-on : (s : List ℕ) (n : ℕ) → readOn n s ≡ n * 256 ^ length s + readOn 0 s
@@ -87,6 +94,26 @@ bytes-wrapped n =
     let c : n % 2 ^ 64 / 256 ^ 1 % 256 ≡ n / 256 ^ 1 % 256 = omega arith in
     let d : n % 2 ^ 64 / 256 ^ 0 % 256 ≡ n / 256 ^ 0 % 256 = omega arith in
     cc
+
+-- ---- the bytes of a joined number
+bytes-low : (m y x : ℕ) → bytes m (y * 2 ^ (8 * m) + x) ≡ bytes m x
+unfolding bytes
+bytes-low zero y x = refl
+bytes-low (suc m) y x =
+    let p : ℕ = 2 ^ (8 * m) in
+    let up : y * 2 ^ (8 * suc m) ≡ y * 256 * p = ap (λ (q : ℕ). y * q) (ap (λ (e : ℕ). 2 ^ e) (mul-suc 8 m) ∙ pow-add 2 (8 * m) 8 ∙ mul-comm p 256) ∙ sym (mul-assoc y 256 p) in
+    let head : (y * 256 * p + x) / 256 ^ m ≡ y * 256 + x / 256 ^ m = rw (byte-power m) (mul-add-div-right (pow-pos (8 * m)) (y * 256) x) in
+    let byte : (y * 256 * p + x) / 256 ^ m % 256 ≡ x / 256 ^ m % 256 = ap (λ (q : ℕ). q % 256) head ∙ omega arith in
+    rw up (ap₂ (λ (b : ℕ) (r : List ℕ). b ∷ r) byte (bytes-low m (y * 256) x))
+
+pub bytes-append : (k m a b : ℕ) → b < 2 ^ (8 * m) → bytes (k + m) (a * 2 ^ (8 * m) + b) ≡ bytes k a ++ bytes m b
+unfolding bytes
+bytes-append zero m a b l = ap (λ (n : ℕ). bytes n (a * 2 ^ (8 * m) + b)) (zero-add m) ∙ bytes-low m a b
+bytes-append (suc k) m a b l =
+    let n : ℕ = a * 2 ^ (8 * m) + b in
+    let places : 8 * (k + m) ≡ 8 * m + 8 * k = omega arith in
+    let high : n / 256 ^ (k + m) ≡ a / 256 ^ k = rw (byte-power (k + m), byte-power k, places, ← (shr-shr n (8 * m) (8 * k)), high-part a (8 * m) l) in
+    ap (λ (w : ℕ). bytes w n) (suc-add k m) ∙ ap₂ (λ (q : ℕ) (r : List ℕ). q % 256 ∷ r) high (bytes-append k m a b l)
 
 -- ---- a mask of joined lists
 pub xor-append : (t m ks : List ℕ) → xor t (m ++ ks) ≡ xor (take (length m) t) m ++ xor (drop (length m) t) ks

@@ -77,7 +77,7 @@ added-is y k (b ∷ s) e bs l =
     ∙ ap (λ (q : ℕ). q * 2 ^ m) (xor-shifted b n (number s) low ∙ sym (number-cons b s)))
 
 -- ---- whole blocks
-block : (h y : ℕ) (s : List ℕ) → Bytes s → length s ≡ 16 → absorbed h (at y 0) s ≡ at (bitXor y (number s) • h) 0
+pub block : (h y : ℕ) (s : List ℕ) → Bytes s → length s ≡ 16 → absorbed h (at y 0) s ≡ at (bitXor y (number s) • h) 0
 block h y [] bs l = absurd (omega arith)
 block h y (b ∷ s) bs l =
     let one : number (b ∷ s) * 2 ^ (8 * 0) ≡ number (b ∷ s) = omega arith in
@@ -95,7 +95,7 @@ absorbed-block h y y′ s i bs l e =
     ∙ sym (absorbed-append h (at y 0) (take 16 t) (drop 16 t))
     ∙ ap (absorbed h (at y 0)) (take-append-drop 16 t)
 
-whole : (h n y : ℕ) (s : List ℕ) → Bytes s → length s ≡ n * 16 → absorbed h (at y 0) s ≡ at (chained h y (blocks n s)) 0
+pub whole : (h n y : ℕ) (s : List ℕ) → Bytes s → length s ≡ n * 16 → absorbed h (at y 0) s ≡ at (chained h y (blocks n s)) 0
 unfolding absorbed blocks chained
 whole h zero y [] bs l = refl
 whole h zero y (x ∷ s) bs l = absurd (omega arith)
@@ -127,7 +127,7 @@ pub closed-none : (h y k : ℕ) → k ≤ 0 → closed h (at y k) ≡ at y k
 unfolding closed
 closed-none h y k l = rw (le-ltb 0 k l)
 
-closed-is : (h y k : ℕ) → k < 16 → closed h (at y k) ≡ absorbed h (at y k) (replicate ((16 - k) % 16) 0)
+pub closed-is : (h y k : ℕ) → k < 16 → closed h (at y k) ≡ absorbed h (at y k) (replicate ((16 - k) % 16) 0)
 unfolding absorbed
 closed-is h y zero l = closed-none h y 0 (omega arith)
 closed-is h y (suc k) l =
@@ -142,7 +142,7 @@ taken-filled h g b l =
     (λ (e : g .filled < 15). ap (λ (x : State). x .filled) (taken-inner h (g .y) (g .filled) b e) ∙ omega arith)
     (eq-or-lt-of-le (le-of-suc-le-suc l))
 
-absorbed-filled : (h : ℕ) (g : State) (s : List ℕ) → g .filled < 16 → absorbed h g s .filled ≡ (g .filled + length s) % 16
+pub absorbed-filled : (h : ℕ) (g : State) (s : List ℕ) → g .filled < 16 → absorbed h g s .filled ≡ (g .filled + length s) % 16
 unfolding absorbed
 absorbed-filled h g [] l = omega arith
 absorbed-filled h g (b ∷ s) l =

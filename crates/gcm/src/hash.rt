@@ -15,7 +15,7 @@ pub struct Ghash {
 
 // Before the first byte.
 pub fn begin() -> Ghash
-    ensures { λ r. ⌜ state r ≡ start ⌝ }
+    ensures { λ r. ⌜ (state r ≡ start) × (r .filled < 16) ⌝ }
 {
     Ghash {
         y: Block { hi: 0, lo: 0 },
@@ -60,7 +60,7 @@ fn absorb_byte(g: Ghash, table: &[u64; 256], byte: u8) -> Ghash
 }
 
 // The sixteen bytes from `at` on as a block.
-fn load_block(bytes: &[u8], at: usize) -> Block
+pub fn load_block(bytes: &[u8], at: usize) -> Block
     requires { ⌜ at + 16 ≤ length (now bytes) ⌝ }
     ensures { λ r. ⌜ num r ≡ number (part (now (bytes .entry)) at 16) ⌝ }
 {
