@@ -1,8 +1,10 @@
 // Sealing: RFC 9001 section 5, as document 01 has it written.
 use octets::refusal;
 use packets::Keys;
-use wire::number::{Acknowledged, FullPn, Shortened, shorten};
-
+use wire::number::Acknowledged;
+use wire::number::FullPn;
+use wire::number::Shortened;
+use wire::number::shorten;
 ghost use mathlib.Core.Path.{_≡_};
 ghost use Prim.Native.Nat.{_+_, _<_, _≤_};
 ghost use lib.ListN.{length};
@@ -42,7 +44,15 @@ fn write_header(
 {
     let first = 0xc0 + wire::version::initial_type(version) * 16 + (count - 1) as u8;
     let counted = count + payload.len() + 16;
-    let place = wire::writing::write_initial(buffer, first, version, destination, source, token, counted);
+    let place = wire::writing::write_initial(
+        buffer,
+        first,
+        version,
+        destination,
+        source,
+        token,
+        counted,
+    );
     octets::store(buffer, place, count, number);
     place
 }
