@@ -19,7 +19,9 @@ enum-known-header : tie.Need-enum-known-header
 enum-known-header c = search needs
 
 part-at-requires : tie.Need-part-at-requires
-part-at-requires c κs = header-there _ _ (sym (ap readingAnswer (c .before .before .header .given .1)) ∙ c .before .before .before .before .read-header .ensures .answer) .source .inside
+part-at-requires c κs =
+    let is = sym (ap readingAnswer (c .before .before .header .given .1)) ∙ c .before .before .before .before .read-header .ensures .answer in
+    header-there _ _ is .source .inside
 
 returns : tie.Need-returns
 returns c =
