@@ -1,1 +1,2 @@
 pub mod Masking
+pub mod Bodies

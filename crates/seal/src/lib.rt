@@ -6,15 +6,16 @@ use wire::number::FullPn;
 use wire::number::Shortened;
 use wire::number::shorten;
 ghost use mathlib.Core.Path.{_≡_};
-ghost use Prim.Native.Nat.{_+_, _<_, _≤_};
-ghost use lib.ListN.{length};
-ghost use Rattle.octets.specs.Octets.{begun};
+ghost use Prim.Native.Nat.{_+_, _-_, _<_, _≤_};
+ghost use lib.ListN.{length, take};
+ghost use Rattle.octets.specs.Octets.{begun, laid, part};
+ghost use Rattle.gcm.specs.Gcm.{tagBy, hashKey};
 ghost use Rattle.wire.specs.Header.{limit};
 ghost use Rattle.wire.specs.Written.{plainHeader, front};
 ghost use Rattle.wire.specs.Answers.{acknowledgedOf};
 ghost use Rattle.packets.specs.KeyRecord.{keysOf};
 ghost use Rattle.packets.specs.Protection.{masked};
-ghost use Rattle.seal.specs.Sealing.{sizeOf, Writable, HeaderWritten, Seal};
+ghost use Rattle.seal.specs.Sealing.{bodyWith, sizeOf, Writable, HeaderWritten, Seal};
 
 // The largest packet that is written.
 const LIMIT: usize = 1500;
@@ -55,6 +56,27 @@ fn write_header(
     );
     octets::store(buffer, place, count, number);
     place
+}
+
+// Section 5.3: the tag over a header that ends at a place, and the ciphertext from there to an end.
+fn tag_over(schedule: &[u8; 176], nonce: &[u8; 12], packet: &[u8], at: usize, end: usize) -> [u8; 16]
+    requires { ⌜ (at ≤ end) × (end ≤ length (now packet)) × (end ≤ limit) ⌝ }
+    ensures { λ r. ⌜ r ≡ tagBy (now (schedule .entry)) (hashKey (now (schedule .entry))) (now (nonce .entry)) (take at (now (packet .entry))) (part (now (packet .entry)) at (end - at)) ⌝ }
+{
+    let hash_key = gcm::tag::hash_key(schedule);
+    gcm::tag::make_tag(schedule, hash_key, nonce, &packet[..at], b"", b"", &packet[at..end])
+}
+
+// Section 5.3: the payload encrypted behind a header that stands at the buffer's start up to `at`, and the tag over both.
+fn write_body(key: &[u8; 16], nonce: &[u8; 12], payload: &[u8], buffer: &mut [u8], at: usize)
+    requires { ⌜ (at + length (now payload) + 16 ≤ length (now buffer)) × (at + length (now payload) ≤ limit) ⌝ }
+    ensures { λ _. ⌜ now (buffer .exit) ≡ laid (now (buffer .entry)) at (bodyWith (now (key .entry)) (now (nonce .entry)) (take at (now (buffer .entry))) (now (payload .entry))) ⌝ }
+{
+    let schedule = aes128::expand_key(key);
+    gcm::counter::crypt(&schedule, nonce, payload, buffer, at);
+    let end = at + payload.len();
+    let tag = tag_over(&schedule, nonce, buffer, at, end);
+    octets::copy(buffer, end, &tag);
 }
 
 // Section 5.4.1: the mask laid over the packet at the buffer's start, whose number stands in `count` bytes at a place.

@@ -1,0 +1,66 @@
+-- The header is all of the associated data.
+use Prim.Native.Nat.{ℕ, _-_}
+use mathlib.Core.Path.{sym, ap, _∙_}
+use borrow.Author.Needs.{needs}
+use native.Mathlib.Omega.{arith}
+use lib.ListN.{take}
+use lib.Seq.{length-take-le}
+use Rattle.octets.specs.Octets.{part}
+use Rattle.gcm.specs.Gcm.{tagBy}
+use Rattle.packets.proofs.Parts.{part-length}
+use Rattle.seal.proofs.Bodies.{one-piece}
+use Rattle.seal.proofs.tag_over.Statement.{statement}
+use Rattle.seal.proofs.tag_over.Tie as tie
+use Rattle.seal.proofs.tag_over.Reads as reads
+use Rattle.seal.proofs.tag_over.Lts as lts
+use Rattle.gcm.proofs.tag.hash_key.Reads as hash-key-reads
+use Rattle.gcm.proofs.tag.make_tag.Reads as make-tag-reads
+
+hash-key-requires : tie.Need-hash-key-requires
+hash-key-requires c κs = search needs
+
+slice-aggregate-make-tag : tie.Need-slice-aggregate-make-tag
+slice-aggregate-make-tag c = sym (length-take-le _ _ (omega arith))
+
+slice-aggregate-make-tag-2 : tie.Need-slice-aggregate-make-tag-2
+slice-aggregate-make-tag-2 c = search needs
+
+slice-aggregate-make-tag-3 : tie.Need-slice-aggregate-make-tag-3
+slice-aggregate-make-tag-3 c = search needs
+
+sub-make-tag : tie.Need-sub-make-tag
+sub-make-tag c = search needs
+
+part-make-tag-start : tie.Need-part-make-tag-start
+part-make-tag-start c = search needs
+
+part-make-tag-end : tie.Need-part-make-tag-end
+part-make-tag-end c = search needs
+
+make-tag-requires : tie.Need-make-tag-requires
+make-tag-requires c κs =
+    let a = c .before .before .before .before .before .before .args in
+    let header = length-take-le (a .at) (a .packet .now) (omega arith) in
+    let text = part-length (a .packet .now) (a .at) (a .end - a .at) (omega arith) in
+    (omega arith, omega arith)
+
+returns : tie.Need-returns
+returns c =
+    let a = c .before .before .before .before .before .before .before .args in
+    c .make-tag .ensures
+    ∙ one-piece (a .schedule .now) _ (a .nonce .now) (take (a .at) (a .packet .now)) (part (a .packet .now) (a .at) (a .end - a .at))
+    ∙ ap (λ (h : ℕ). tagBy (a .schedule .now) h (a .nonce .now) (take (a .at) (a .packet .now)) (part (a .packet .now) (a .at) (a .end - a .at))) (c .before .before .before .before .before .hash-key .ensures)
+
+pub tag-over-spec : {M : Type 1} → statement M
+tag-over-spec =
+    tie.close
+    (tie.spec
+    hash-key-requires
+    slice-aggregate-make-tag
+    slice-aggregate-make-tag-2
+    slice-aggregate-make-tag-3
+    sub-make-tag
+    part-make-tag-start
+    part-make-tag-end
+    make-tag-requires
+    returns)
