@@ -3,3 +3,4 @@ pub mod Same
 pub mod Parts
 pub mod Sealing
 pub mod Opening
+pub mod Aes

@@ -137,12 +137,12 @@ module _ (suite : Suite) (k : Keys) (p : Plain) where
         )
 
 -- ---- what is known of a packet because the rules sealed it
-record Shortened (m n : ℕ) : Type 0 where
-  small : m < numbers
-  positive : 1 ≤ n
-  short : n ≤ 4
+pub record Shortened (m n : ℕ) : Type 0 where
+  pub small : m < numbers
+  pub positive : 1 ≤ n
+  pub short : n ≤ 4
 
-shortening : (m : ℕ) (a : Acknowledged) (n t : ℕ) → shortened m a n ≡ given t → Shortened m n
+pub shortening : (m : ℕ) (a : Acknowledged) (n t : ℕ) → shortened m a n ≡ given t → Shortened m n
 unfolding shortened gap
 shortening m a n t h =
     let g = stepped (gap m a) _ h in

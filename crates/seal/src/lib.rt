@@ -15,6 +15,8 @@ ghost use Rattle.wire.specs.Written.{plainHeader, front};
 ghost use Rattle.wire.specs.Answers.{acknowledgedOf};
 ghost use Rattle.packets.specs.KeyRecord.{keysOf};
 ghost use Rattle.packets.specs.Protection.{masked};
+ghost use Rattle.packets.specs.Packet.{packetOf};
+ghost use Rattle.packets.specs.AesGcm.{aesGcm};
 ghost use Rattle.seal.specs.Sealing.{bodyWith, sizeOf, Writable, HeaderWritten, Seal};
 
 // The largest packet that is written.
@@ -90,4 +92,28 @@ fn protect(mask: [u8; 16], place: usize, count: usize, buffer: &mut [u8])
     let first = buffer[0] ^ (mask[0] % 16);
     octets::put(buffer, 0, first);
     octets::copy_masked(buffer, place, &short[..count], &mask[1..]);
+}
+
+// Sections 5.3 and 5.4: the packet, protected, at the buffer's start.
+fn write_packet(
+    keys: Keys,
+    number: u64,
+    count: usize,
+    destination: &[u8],
+    source: &[u8],
+    token: &[u8],
+    payload: &[u8],
+    buffer: &mut [u8],
+)
+    requires { ⌜ Writable (record { destination = now destination; source = now source; token = now token; payload = now payload; packetNumber = number; numberLength = count }) (now buffer) ⌝ }
+    ensures { λ _. ⌜ now (buffer .exit) ≡ begun (packetOf aesGcm (keysOf keys) (record { destination = now (destination .entry); source = now (source .entry); token = now (token .entry); payload = now (payload .entry); packetNumber = number; numberLength = count })) (now (buffer .entry)) ⌝ }
+{
+    let key = keys.key;
+    let iv = keys.iv;
+    let hp = keys.hp;
+    let place = write_header(keys.version, number, count, destination, source, token, payload, buffer);
+    let nonce = packets::nonce_of(&iv, number);
+    write_body(&key, &nonce, payload, buffer, place + count);
+    let mask = packets::mask_of(&hp, buffer, place);
+    protect(mask, place, count, buffer);
 }
