@@ -2,3 +2,4 @@ pub mod Same
 pub mod Parts
 pub mod Sealing
 pub mod Opening
+pub mod RoundTrip
