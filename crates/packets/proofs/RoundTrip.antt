@@ -1,12 +1,12 @@
 -- A sealed packet is opened again, whatever stands behind it: the mask comes off, the parts are found where they were written,
 -- the number is recovered, the tag matches, the stream undoes itself.
-use Prim.Native.Nat.{ℕ, _+_, _-_, _/_, _%_, _≤_, _<_}
-use mathlib.Core.Path.{_≡_, refl, sym, ap, ap₂, _∙_}
+use Prim.Native.Nat.{ℕ, _+_, _-_, _/_, _%_, _≤_}
+use mathlib.Core.Path.{_≡_, refl, sym, ap, _∙_}
 use mathlib.Core.List.{List, _∷_, _++_, append-assoc}
 use native.Mathlib.Omega.{arith}
 use lib.Bits.{xor-shr, xor-zero-r}
 use lib.Dec.{eqb}
-use lib.ListN.{length, getD, drop, take, length-append}
+use lib.ListN.{length, getD, drop, length-append}
 use lib.Seq.{take-append-seam, drop-at, drop-drop}
 use borrow.Author.Tests.{eq-eqb}
 use Rattle.octets.specs.Outcome.{given}
@@ -15,14 +15,14 @@ use Rattle.octets.proofs.Numbers.{byte-power, number-bytes}
 use Rattle.octets.proofs.Xor.{xor-twice, xor-undone}
 use Rattle.wire.specs.Numbers.{numbers, decoded, Near}
 use Rattle.wire.specs.Versions.{version}
-use Rattle.wire.specs.Header.{limit, header}
+use Rattle.wire.specs.Header.{limit}
 use Rattle.wire.specs.Written.{Plain, firstByte, fields, lengthOf, front, plainHeader}
 use Rattle.wire.proofs.Recovery.{recovery}
 use Rattle.wire.proofs.Places.{At, past, part-at}
-use Rattle.wire.proofs.HeaderBack.{Written, numberAt, placesOf, at-number, number-place, header-read}
+use Rattle.wire.proofs.HeaderBack.{Written, numberAt, at-number, number-place, header-read}
 use Rattle.packets.specs.Suite.{Suite, Laws}
 use Rattle.packets.specs.Protection.{Keys, nonce, onFirst, onNumber, sampleOf}
-use Rattle.packets.specs.Packet.{same, packetOf, opened}
+use Rattle.packets.specs.Packet.{opened}
 use Rattle.packets.specs.Parts.{Unmasked, plainIn, cipherIn, tagIn}
 use Rattle.packets.specs.Effects.{whatWasSealed}
 use Rattle.packets.proofs.Same.{equal-same}

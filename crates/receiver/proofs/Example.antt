@@ -17,7 +17,7 @@ use Rattle.wire.specs.Written.{two, smallest, longFields, initialFields, firstB
 use Rattle.packets.specs.Suite.{Laws}
 use Rattle.packets.specs.Protection.{nonce, onFirst, onNumber, sampleOf}
 use Rattle.packets.specs.Packet.{same, bodyOf, packetOf, sealed, unprotected, opened}
-use Rattle.receiver.specs.Receiver.{Good, Fair, Received}
+use Rattle.receiver.specs.Receiver.{Good, Fair}
 use Rattle.receiver.specs.Example.{toy, keys, plainOf, sealedOf, parcelOf, comes, empty, damaged, coming, opens, refuses, lent, Example}
 use Rattle.receiver.proofs.Receiver.{demand3}
 
