@@ -1,3 +1,4 @@
+pub mod Filled
 pub mod Same
 pub mod Parts
 pub mod Sealing

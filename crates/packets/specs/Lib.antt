@@ -1,5 +1,7 @@
 pub mod Suite
 pub mod Protection
 pub mod Packet
+pub mod KeyRecord
 pub mod Parts
 pub mod Effects
+pub mod AesGcm

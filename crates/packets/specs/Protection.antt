@@ -1,9 +1,9 @@
 -- RFC 9001 sections 5.3 and 5.4: the nonce, and the mask over the header.
 use Prim.Native.Nat.{ℕ, _+_, _%_}
-use mathlib.Core.List.{List, []}
+use mathlib.Core.List.{List, [], _∷_}
 use lib.Bits.{bitXor}
 use lib.ListN.{getD, drop}
-use Rattle.octets.specs.Octets.{bytes, part, xor}
+use Rattle.octets.specs.Octets.{bytes, part, xor, laid}
 use Rattle.packets.specs.Suite.{Suite}
 
 -- one sender's keys
@@ -27,3 +27,7 @@ onNumber mask short = xor short (drop 1 mask)
 -- section 5.4.2: the sample starts four bytes after the number's first byte, as if the number had four
 unfoldable pub sampleOf : (packet : List ℕ) (numberAt : ℕ) → List ℕ
 sampleOf packet numberAt = part packet (numberAt + 4) 16
+
+-- the mask laid over a packet whose number stands in n bytes at a place
+unfoldable pub masked : (mask : List ℕ) (numberAt n : ℕ) (packet : List ℕ) → List ℕ
+masked mask numberAt n packet = laid (laid packet 0 (onFirst mask (getD packet 0 0) ∷ [])) numberAt (onNumber mask (part packet numberAt n))

@@ -1,18 +1,18 @@
 -- A header that was written is read back: each field where it stands, whatever stands behind.
-use Prim.Native.Nat.{ℕ, suc, _+_, _*_, _/_, _%_, _^_, _≤_, _<_}
+use Prim.Native.Nat.{ℕ, suc, _+_, _/_, _%_, _^_, _≤_, _<_}
 use mathlib.Core.Path.{_≡_, refl, sym, ap, _∙_}
 use mathlib.Core.List.{List, [], _∷_, _++_, append-assoc}
 use mathlib.Core.Bool.{Bool, true}
 use native.Mathlib.Nat.{mod-eq-of-lt}
 use native.Mathlib.Omega.{arith}
-use lib.ListN.{length, getD, drop, length-append}
+use lib.ListN.{length, getD, length-append}
 use Rattle.octets.specs.Outcome.{given}
 use Rattle.octets.specs.Octets.{bytes, number, part}
 use Rattle.octets.proofs.Numbers.{bytes-length, number-bytes}
 use Rattle.wire.specs.Versions.{Version, known, version}
 use Rattle.wire.specs.Integer.{integer}
-use Rattle.wire.specs.Header.{Place, Long, Header, limit, longestId, leastLength, idAt, fieldAt, restAt, versionOf, long, header}
-use Rattle.wire.specs.Written.{Plain, two, smallest, longFirst, withLength, longFields, initialFields, lengthOf, fields}
+use Rattle.wire.specs.Header.{Long, Header, limit, longestId, leastLength, idAt, fieldAt, restAt, versionOf, long, header}
+use Rattle.wire.specs.Written.{Plain, two, smallest, longFirst, withLength, longFields, lengthOf, initialFields, fields}
 use Rattle.wire.proofs.Versions.{version-fits, initial-fits}
 use Rattle.wire.proofs.Fields.{id-whole, integer-found, field-whole, rest-whole}
 use Rattle.wire.proofs.Headers.{version-found, judged-right, long-found, header-found}
@@ -68,27 +68,25 @@ longPlaces v destination source = record {
   source = record { at = 6 + length destination + 1; len = length source };
 }
 
+-- what stands from the destination's length on
+abbrev fromDestination : (destination source rest : List ℕ) → List ℕ
+fromDestination destination source rest = withLength destination ++ (withLength source ++ rest)
+
 regroup : (a b c d : List ℕ) → a ++ b ++ c ++ d ≡ a ++ (b ++ (c ++ d))
 regroup a b c d = simp append-assoc
 
 module _ (v first : ℕ) (destination source d rest : List ℕ) (is : d ≡ first ∷ longFields v destination source ++ rest) where
-  abbrev fromSource : List ℕ
-  fromSource = withLength source ++ rest
-
-  abbrev fromDestination : List ℕ
-  fromDestination = withLength destination ++ fromSource
-
-  at-version : At d 1 (bytes 4 v ++ fromDestination)
+  at-version : At d 1 (bytes 4 v ++ fromDestination destination source rest)
   unfolding longFields
   at-version =
       let l : length d ≡ suc (length (longFields v destination source ++ rest)) = rw is in
-      begins d 1 (bytes 4 v ++ fromDestination) (omega arith) (rw is (regroup (bytes 4 v) (withLength destination) (withLength source) rest))
+      begins d 1 (bytes 4 v ++ fromDestination destination source rest) (omega arith) (rw is (regroup (bytes 4 v) (withLength destination) (withLength source) rest))
 
-  at-destination : At d 5 fromDestination
-  at-destination = past d 1 5 (bytes 4 v) fromDestination at-version (rw (bytes-length 4 v))
+  at-destination : At d 5 (fromDestination destination source rest)
+  at-destination = past d 1 5 (bytes 4 v) (fromDestination destination source rest) at-version (rw (bytes-length 4 v))
 
-  at-source : At d (6 + length destination) fromSource
-  at-source = past d 5 (6 + length destination) (withLength destination) fromSource at-destination (omega arith)
+  at-source : At d (6 + length destination) (withLength source ++ rest)
+  at-source = past d 5 (6 + length destination) (withLength destination) (withLength source ++ rest) at-destination (omega arith)
 
   -- what stands behind the two IDs
   pub behind-ids : At d (6 + length destination + 1 + length source) rest
@@ -97,8 +95,8 @@ module _ (v first : ℕ) (destination source d rest : List ℕ) (is : d ≡ firs
   -- the IDs themselves
   pub destination-back : part d 6 (length destination) ≡ destination
   destination-back =
-      let there = past d 5 6 (length destination ∷ []) (destination ++ fromSource) at-destination refl in
-      part-at d 6 (length destination) destination fromSource there refl
+      let there = past d 5 6 (length destination ∷ []) (destination ++ (withLength source ++ rest)) at-destination refl in
+      part-at d 6 (length destination) destination (withLength source ++ rest) there refl
 
   pub source-back : part d (6 + length destination + 1) (length source) ≡ source
   source-back =
@@ -111,7 +109,7 @@ module _ (takes : ℕ → Bool) (type : Version → ℕ) (v first : ℕ) (destin
       let there = at-version v first destination source d rest (w .is) in
       let end = at-destination v first destination source d rest (w .is) in
       let byte : getD d 0 0 ≡ first = rw (w .is) in
-      let value = ap number (part-at d 1 4 (bytes 4 v) (fromDestination v first destination source d rest (w .is)) there (bytes-length 4 v)) in
+      let value = ap number (part-at d 1 4 (bytes 4 v) (fromDestination destination source rest) there (bytes-length 4 v)) in
       version-found d (omega arith) (w .fits) (omega (arith, w .form)) (omega arith)
       ∙ ap given (value ∙ number-bytes 4 v ∙ mod-eq-of-lt (version-fits v (w .ours)))
 
@@ -149,6 +147,13 @@ module _ (p : Plain) where
     numberAt = numberAt;
   }
 
+-- what stands from Length on, and from the token's length on
+abbrev fromLength : Plain → List ℕ → List ℕ
+fromLength p rest = two (lengthOf p) ++ rest
+
+abbrev fromTokenLength : Plain → List ℕ → List ℕ
+fromTokenLength p rest = smallest (length (p .token)) ++ (p .token ++ fromLength p rest)
+
 -- a datagram that begins with the fields of p behind a first byte that says Initial, and goes on as long as Length says
 pub record Written (takes : ℕ → Bool) (v first : ℕ) (p : Plain) (d rest : List ℕ) : Type 0 where
   pub is : d ≡ first ∷ fields v p ++ rest
@@ -162,14 +167,8 @@ pub record Written (takes : ℕ → Bool) (v first : ℕ) (p : Plain) (d rest : 
   pub all : lengthOf p ≤ length rest
 
 module _ (v first : ℕ) (p : Plain) (d rest : List ℕ) (is : d ≡ first ∷ fields v p ++ rest) where
-  abbrev fromLength : List ℕ
-  fromLength = two (lengthOf p) ++ rest
-
-  abbrev fromTokenLength : List ℕ
-  fromTokenLength = smallest (length (p .token)) ++ (p .token ++ fromLength)
-
   -- behind the IDs
-  pub is-long : d ≡ first ∷ longFields v (p .destination) (p .source) ++ fromTokenLength
+  pub is-long : d ≡ first ∷ longFields v (p .destination) (p .source) ++ fromTokenLength p rest
   unfolding initialFields
   is-long =
       is ∙ ap (λ (s : List ℕ). first ∷ s)
@@ -178,21 +177,21 @@ module _ (v first : ℕ) (p : Plain) (d rest : List ℕ) (is : d ≡ first ∷ f
       regroup′ : (a b c e f : List ℕ) → a ++ b ++ c ++ e ++ f ≡ a ++ (b ++ (c ++ (e ++ f)))
       regroup′ a b c e f = simp append-assoc
 
-  at-token-length : At d (tokenLengthAt p) fromTokenLength
-  at-token-length = behind-ids v first (p .destination) (p .source) d fromTokenLength is-long
+  at-token-length : At d (tokenLengthAt p) (fromTokenLength p rest)
+  at-token-length = behind-ids v first (p .destination) (p .source) d (fromTokenLength p rest) is-long
 
-  at-token : At d (tokenAt p) (p .token ++ fromLength)
-  at-token = past d (tokenLengthAt p) (tokenAt p) (smallest (length (p .token))) (p .token ++ fromLength) at-token-length refl
+  at-token : At d (tokenAt p) (p .token ++ fromLength p rest)
+  at-token = past d (tokenLengthAt p) (tokenAt p) (smallest (length (p .token))) (p .token ++ fromLength p rest) at-token-length refl
 
-  at-length : At d (lengthAt p) fromLength
-  at-length = past d (tokenAt p) (lengthAt p) (p .token) fromLength at-token refl
+  at-length : At d (lengthAt p) (fromLength p rest)
+  at-length = past d (tokenAt p) (lengthAt p) (p .token) (fromLength p rest) at-token refl
 
   -- what stands behind Length
   pub at-number : At d (numberAt p) rest
   at-number = past d (lengthAt p) (numberAt p) (two (lengthOf p)) rest at-length (ap (λ (k : ℕ). lengthAt p + k) (two-length (lengthOf p)))
 
   pub token-back : part d (tokenAt p) (length (p .token)) ≡ p .token
-  token-back = part-at d (tokenAt p) (length (p .token)) (p .token) fromLength at-token refl
+  token-back = part-at d (tokenAt p) (length (p .token)) (p .token) (fromLength p rest) at-token refl
 
 -- the number stands behind the first byte and the fields
 pub number-place : (v : ℕ) (p : Plain) → numberAt p ≡ suc (length (fields v p))

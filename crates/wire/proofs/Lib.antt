@@ -8,3 +8,4 @@ pub mod Headers
 pub mod Places
 pub mod IntegersBack
 pub mod HeaderBack
+pub mod OneAnswer

@@ -41,7 +41,7 @@ idAt d at = do
   whole d (at + 1) len
   given (record { at = at + 1; len = len })
 
--- ---- section 17.2: what every long header begins with
+-- ---- section 17.2: what every long header begins with, where it stands
 pub record Long : Type 0 where
   pub version : ℕ
   pub destination : Place
@@ -63,6 +63,7 @@ judged takes type d = do
   unless 6 (eqb (getD d 0 0 / 16 % 4) (type (version v)))
   given v
 
+-- the version and the two IDs
 unfoldable pub long : (takes : ℕ → Bool) → (type : Version → ℕ) → List ℕ → Outcome Long
 long takes type d = do
   v ← judged takes type d
@@ -70,7 +71,7 @@ long takes type d = do
   source ← idAt d (behind destination)
   given (record { version = v; destination = destination; source = source })
 
--- ---- section 17.2.2: the Initial packet
+-- ---- section 17.2.2: the Initial packet's header, where it stands; its Length and its number's place
 pub record Header : Type 0 where
   pub version : ℕ
   pub destination : Place
@@ -100,6 +101,7 @@ restAt d at = do
   whole d (rest .at) (rest .len)
   given rest
 
+-- what every long header begins with, then the token and the rest
 unfoldable pub header : (takes : ℕ → Bool) → List ℕ → Outcome Header
 header takes d = do
   l ← long takes (λ v. v .initialType) d

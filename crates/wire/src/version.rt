@@ -10,124 +10,24 @@ pub const VERSION_1: u32 = 0x00000001;
 pub const DRAFT_2: u32 = 0x709a50c4;
 
 // RFC 9001 section 5.2.
-const SALT_1: [u8; 20] = [
-    0x38,
-    0x76,
-    0x2c,
-    0xf7,
-    0xf5,
-    0x59,
-    0x34,
-    0xb3,
-    0x4d,
-    0x17,
-    0x9a,
-    0xe6,
-    0xa4,
-    0xc8,
-    0x0c,
-    0xad,
-    0xcc,
-    0xbb,
-    0x7f,
-    0x0a,
-];
+const SALT_1: [u8; 20] =
+    *b"\x38\x76\x2c\xf7\xf5\x59\x34\xb3\x4d\x17\x9a\xe6\xa4\xc8\x0c\xad\xcc\xbb\x7f\x0a";
 
 // The draft's salt.
-const SALT_2: [u8; 20] = [
-    0xa7,
-    0x07,
-    0xc2,
-    0x03,
-    0xa5,
-    0x9b,
-    0x47,
-    0x18,
-    0x4a,
-    0x1d,
-    0x62,
-    0xca,
-    0x57,
-    0x04,
-    0x06,
-    0xea,
-    0x7a,
-    0xe3,
-    0xe5,
-    0xd3,
-];
+const SALT_2: [u8; 20] =
+    *b"\xa7\x07\xc2\x03\xa5\x9b\x47\x18\x4a\x1d\x62\xca\x57\x04\x06\xea\x7a\xe3\xe5\xd3";
 
 // RFC 9001 section 5.8.
-const RETRY_KEY_1: [u8; 16] = [
-    0xbe,
-    0x0c,
-    0x69,
-    0x0b,
-    0x9f,
-    0x66,
-    0x57,
-    0x5a,
-    0x1d,
-    0x76,
-    0x6b,
-    0x54,
-    0xe3,
-    0x68,
-    0xc8,
-    0x4e,
-];
+const RETRY_KEY_1: [u8; 16] = *b"\xbe\x0c\x69\x0b\x9f\x66\x57\x5a\x1d\x76\x6b\x54\xe3\x68\xc8\x4e";
 
 // The draft's key for Retry.
-const RETRY_KEY_2: [u8; 16] = [
-    0xba,
-    0x85,
-    0x8d,
-    0xc7,
-    0xb4,
-    0x3d,
-    0xe5,
-    0xdb,
-    0xf8,
-    0x76,
-    0x17,
-    0xff,
-    0x4a,
-    0xb2,
-    0x53,
-    0xdb,
-];
+const RETRY_KEY_2: [u8; 16] = *b"\xba\x85\x8d\xc7\xb4\x3d\xe5\xdb\xf8\x76\x17\xff\x4a\xb2\x53\xdb";
 
 // RFC 9001 section 5.8.
-const RETRY_NONCE_1: [u8; 12] = [
-    0x46,
-    0x15,
-    0x99,
-    0xd3,
-    0x5d,
-    0x63,
-    0x2b,
-    0xf2,
-    0x23,
-    0x98,
-    0x25,
-    0xbb,
-];
+const RETRY_NONCE_1: [u8; 12] = *b"\x46\x15\x99\xd3\x5d\x63\x2b\xf2\x23\x98\x25\xbb";
 
 // The draft's nonce for Retry.
-const RETRY_NONCE_2: [u8; 12] = [
-    0x14,
-    0x1b,
-    0x99,
-    0xc2,
-    0x39,
-    0xb0,
-    0x3e,
-    0x78,
-    0x5d,
-    0x6a,
-    0x2e,
-    0x9f,
-];
+const RETRY_NONCE_2: [u8; 12] = *b"\x14\x1b\x99\xc2\x39\xb0\x3e\x78\x5d\x6a\x2e\x9f";
 
 // Whether the version is one of the two.
 pub fn is_known(version: u32) -> bool

@@ -1,6 +1,7 @@
 -- The place was found within the datagram.
 use mathlib.Core.Path.{sym, ap, _∙_}
 use borrow.Author.Needs.{needs}
+use native.Mathlib.Omega.{arith}
 use Rattle.wire.specs.HeaderAnswers.{readingAnswer}
 use Rattle.wire.proofs.Headers.{header-there, handed-none, handed-part}
 use Rattle.wire.proofs.header.header_source.Statement.{statement}
@@ -19,7 +20,9 @@ enum-known-header : tie.Need-enum-known-header
 enum-known-header c = search needs
 
 part-at-requires : tie.Need-part-at-requires
-part-at-requires c κs = header-there _ _ (sym (ap readingAnswer (c .before .before .header .given .1)) ∙ c .before .before .before .before .read-header .ensures .answer) .source .inside
+part-at-requires c κs =
+    let there = header-there _ _ (sym (ap readingAnswer (c .before .before .header .given .1)) ∙ c .before .before .before .before .read-header .ensures .answer) in
+    omega arith
 
 returns : tie.Need-returns
 returns c =

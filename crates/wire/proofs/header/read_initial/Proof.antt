@@ -22,43 +22,55 @@ enum-known-long c = search needs
 
 add-field-at : tie.Need-add-field-at
 add-field-at c =
-    let within = long-there _ _ _ (sym (ap longAnswer (c .before .before .before .before .long .given .1)) ∙ c .before .before .before .before .before .before .read-long .ensures) in
+    let there = long-there _ _ _ (sym (ap longAnswer (c .before .before .before .before .long .given .1)) ∙ c .before .before .before .before .before .before .read-long .ensures) in
     omega arith
 
 field-at-requires : tie.Need-field-at-requires
-field-at-requires c κs = long-there _ _ _ (sym (ap longAnswer (c .before .before .before .before .long .given .1)) ∙ c .before .before .before .before .before .before .read-long .ensures) .source .inside
+field-at-requires c κs =
+    let long = sym (ap longAnswer (c .before .before .before .before .long .given .1)) ∙ c .before .before .before .before .before .before .read-long .ensures in
+    long-there _ _ _ long .source .inside
 
 enum-known-why-2 : tie.Need-enum-known-why-2
 enum-known-why-2 c = search needs
 
 returns-2 : tie.Need-returns-2
-returns-2 c = sym (header-no-token _ _ (sym (ap longAnswer (c .before .before .before .before .before .before .before .before .long .given .1)) ∙ c .before .before .before .before .before .before .before .before .before .before .read-long .ensures) (sym (ap foundAnswer (c .before .why2 .given .1)) ∙ c .before .before .before .field-at .ensures))
+returns-2 c =
+    let long = sym (ap longAnswer (c .before .before .before .before .before .before .before .before .long .given .1)) ∙ c .before .before .before .before .before .before .before .before .before .before .read-long .ensures in
+    sym (header-no-token _ _ long (sym (ap foundAnswer (c .before .why2 .given .1)) ∙ c .before .before .before .field-at .ensures))
 
 enum-known-place : tie.Need-enum-known-place
 enum-known-place c = search needs
 
 add-rest-at : tie.Need-add-rest-at
 add-rest-at c =
-    let begin = long-there _ _ _ (sym (ap longAnswer (c .before .before .before .before .before .before .before .before .before .long .given .1)) ∙ c .before .before .before .before .before .before .before .before .before .before .before .read-long .ensures) in
-    let within = field-within _ _ (begin .source .inside) (sym (ap foundAnswer (c .before .before .place .given .1)) ∙ c .before .before .before .before .field-at .ensures) in
+    let long = sym (ap longAnswer (c .before .before .before .before .before .before .before .before .before .long .given .1)) ∙ c .before .before .before .before .before .before .before .before .before .before .before .read-long .ensures in
+    let token = sym (ap foundAnswer (c .before .before .place .given .1)) ∙ c .before .before .before .before .field-at .ensures in
+    let within = field-within _ _ (long-there _ _ _ long .source .inside) token in
     omega arith
 
 rest-at-requires : tie.Need-rest-at-requires
 rest-at-requires c κs =
-    let begin = long-there _ _ _ (sym (ap longAnswer (c .before .before .before .before .before .before .before .before .before .long .given .1)) ∙ c .before .before .before .before .before .before .before .before .before .before .before .read-long .ensures) in
-    field-within _ _ (begin .source .inside) (sym (ap foundAnswer (c .before .before .place .given .1)) ∙ c .before .before .before .before .field-at .ensures) .inside
+    let long = sym (ap longAnswer (c .before .before .before .before .before .before .before .before .before .long .given .1)) ∙ c .before .before .before .before .before .before .before .before .before .before .before .read-long .ensures in
+    let token = sym (ap foundAnswer (c .before .before .place .given .1)) ∙ c .before .before .before .before .field-at .ensures in
+    field-within _ _ (long-there _ _ _ long .source .inside) token .inside
 
 enum-known-why-3 : tie.Need-enum-known-why-3
 enum-known-why-3 c = search needs
 
 returns-3 : tie.Need-returns-3
-returns-3 c = sym (header-no-rest _ _ (sym (ap longAnswer (c .before .before .before .before .before .before .before .before .before .before .before .before .before .long .given .1)) ∙ c .before .before .before .before .before .before .before .before .before .before .before .before .before .before .before .read-long .ensures) (sym (ap foundAnswer (c .before .before .before .before .before .before .place .given .1)) ∙ c .before .before .before .before .before .before .before .before .field-at .ensures) (sym (ap foundAnswer (c .before .why3 .given .1)) ∙ c .before .before .before .rest-at .ensures))
+returns-3 c =
+    let long = sym (ap longAnswer (c .before .before .before .before .before .before .before .before .before .before .before .before .before .long .given .1)) ∙ c .before .before .before .before .before .before .before .before .before .before .before .before .before .before .before .read-long .ensures in
+    let token = sym (ap foundAnswer (c .before .before .before .before .before .before .place .given .1)) ∙ c .before .before .before .before .before .before .before .before .field-at .ensures in
+    sym (header-no-rest _ _ long token (sym (ap foundAnswer (c .before .why3 .given .1)) ∙ c .before .before .before .rest-at .ensures))
 
 enum-known-place-2 : tie.Need-enum-known-place-2
 enum-known-place-2 c = search needs
 
 returns-4 : tie.Need-returns-4
-returns-4 c = sym (header-found _ _ (sym (ap longAnswer (c .before .before .before .before .before .before .before .before .before .before .before .before .before .long .given .1)) ∙ c .before .before .before .before .before .before .before .before .before .before .before .before .before .before .before .read-long .ensures) (sym (ap foundAnswer (c .before .before .before .before .before .before .place .given .1)) ∙ c .before .before .before .before .before .before .before .before .field-at .ensures) (sym (ap foundAnswer (c .before .place2 .given .1)) ∙ c .before .before .before .rest-at .ensures))
+returns-4 c =
+    let long = sym (ap longAnswer (c .before .before .before .before .before .before .before .before .before .before .before .before .before .long .given .1)) ∙ c .before .before .before .before .before .before .before .before .before .before .before .before .before .before .before .read-long .ensures in
+    let token = sym (ap foundAnswer (c .before .before .before .before .before .before .place .given .1)) ∙ c .before .before .before .before .before .before .before .before .field-at .ensures in
+    sym (header-found _ _ long token (sym (ap foundAnswer (c .before .place2 .given .1)) ∙ c .before .before .before .rest-at .ensures))
 
 pub read-initial-spec : {M : Type 1} → statement M
 read-initial-spec =

@@ -1,0 +1,63 @@
+-- The differences so far and what is left to compare decide as the whole lists do.
+use Prim.Native.Nat.{ℕ, _-_, _≤_, _<_}
+use mathlib.Core.Path.{_≡_, refl, sym, _∙_}
+use mathlib.Core.Bool.{_&&_}
+use native.Mathlib.Omega.{arith}
+use borrow.Author.Needs.{needs}
+use lib.ListN.{length, drop}
+use lib.Dec.{eqb}
+use Rattle.gcm.specs.Same.{same}
+use Rattle.gcm.proofs.Comparing.{same-lengths, same-turn, same-end}
+use Rattle.gcm.proofs.tag.same_tag.Statement.{statement}
+use Rattle.gcm.proofs.tag.same_tag.Tie as tie
+
+abbrev Inv-loop : tie.InvT-loop
+Inv-loop a b unlike₀ i₀ unlike i = (i ≤ length a) × (eqb unlike 0 && same (drop i a) (drop i b) ≡ same a b)
+
+abbrev μ-loop : tie.MeasureT-loop
+μ-loop a b unlike₀ i₀ unlike i = length a - i
+
+returns : tie.Need-returns Inv-loop μ-loop
+returns c = sym (same-lengths (c .before .args .a .now) (c .before .args .b .now) (c .if1 .taken))
+
+loop-holds : tie.Need-loop-holds Inv-loop μ-loop
+loop-holds c = (search needs, refl)
+
+shared-slice-read-unlike : tie.Need-shared-slice-read-unlike Inv-loop μ-loop
+shared-slice-read-unlike c = search needs
+
+shared-slice-read-unlike-2 : tie.Need-shared-slice-read-unlike-2 Inv-loop μ-loop
+shared-slice-read-unlike-2 c = search needs
+
+add-i : tie.Need-add-i Inv-loop μ-loop
+add-i c = search needs
+
+loop-less : tie.Need-loop-less Inv-loop μ-loop
+loop-less c = search needs
+
+loop-again : tie.Need-loop-again Inv-loop μ-loop
+loop-again c =
+    let l = c .before .before .before .loop in
+    let a = c .before .before .before .before .before .args in
+    (omega arith, same-turn (a .a .now) (a .b .now) (l .i) (l .unlike) (omega arith) (omega arith) ∙ l .inv .1)
+
+returns-2 : tie.Need-returns-2 Inv-loop μ-loop
+returns-2 c =
+    let l = c .before .loop in
+    let a = c .before .before .before .args in
+    sym (same-end (a .a .now) (a .b .now) (l .i) (l .unlike) (omega arith) (omega arith)) ∙ l .inv .1
+
+pub same-tag-spec : {M : Type 1} → statement M
+same-tag-spec =
+    tie.close
+    (tie.spec
+    Inv-loop
+    μ-loop
+    returns
+    loop-holds
+    shared-slice-read-unlike
+    shared-slice-read-unlike-2
+    add-i
+    loop-less
+    loop-again
+    returns-2)

@@ -1,0 +1,2 @@
+pub mod Keyed
+pub mod Info

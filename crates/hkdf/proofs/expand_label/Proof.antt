@@ -1,0 +1,74 @@
+-- The first block of the label's info, cut to what is lent.
+use Prim.Native.Nat.{ℕ, _+_}
+use mathlib.Core.List.{List}
+use mathlib.Core.Path.{_≡_, sym, ap, _∙_}
+use borrow.Author.Needs.{needs}
+use native.Mathlib.Omega.{arith}
+use lib.ListN.{length, take, replicate, length-take}
+use lib.Seq.{length-take-le}
+use Rattle.hkdf.specs.Hkdf.{T, info}
+use Rattle.hkdf.proofs.Info.{begun-front, info-length, expand-label-is}
+use Rattle.hkdf.proofs.expand_label.Statement.{statement}
+use Rattle.hkdf.proofs.expand_label.Tie as tie
+
+add-end : tie.Need-add-end
+add-end c = search needs
+
+slice-aggregate-write-info : tie.Need-slice-aggregate-write-info
+slice-aggregate-write-info c = search needs
+
+write-info-requires : tie.Need-write-info-requires
+write-info-requires c κs = search needs
+
+array-share-prefix-info : tie.Need-array-share-prefix-info
+array-share-prefix-info c = search needs
+
+slice-aggregate-expand : tie.Need-slice-aggregate-expand
+slice-aggregate-expand c =
+    let written = c .before .before .write-info in
+    let room : length (written .last .0) ≡ 259 = written .kept .0 in
+    sym (length-take-le _ (written .last .0) (omega arith))
+
+expand-requires : tie.Need-expand-requires
+expand-requires c κs = simp length-take (omega arith)
+
+array-share-prefix-block : tie.Need-array-share-prefix-block
+array-share-prefix-block c = search needs
+
+slice-aggregate-copy : tie.Need-slice-aggregate-copy
+slice-aggregate-copy c =
+    let block = c .before .before .expand .result in
+    let long : length block ≡ 32 = search needs in
+    sym (length-take-le _ block (omega arith))
+
+copy-requires : tie.Need-copy-requires
+copy-requires c κs = simp length-take (omega arith)
+
+same-length : tie.Need-same-length
+same-length c = search needs
+
+returns : tie.Need-returns
+returns c =
+    let a = c .before .before .before .before .before .before .before .before .before .before .before .before .args in
+    let label = a .label .now in
+    let size : ℕ = length (a .out .now) in
+    let block = c .before .before .before .before .before .expand in
+    let long : length (block .result) ≡ 32 = search needs in
+    let text = ap (take (length label + 10)) (c .before .before .before .before .before .before .before .before .write-info .ensures) ∙ begun-front (info label size) (replicate 259 0) (length label + 10) (info-length label size) in
+    c .before .before .copy .ensures ∙ expand-label-is (a .out .now) (a .secret .now) label (block .result) (omega arith) long (block .ensures ∙ ap (λ (s : List ℕ). T (a .secret .now) s 1) text)
+
+pub expand-label-spec : {M : Type 1} → statement M
+expand-label-spec =
+    tie.close
+    (tie.spec
+    add-end
+    slice-aggregate-write-info
+    write-info-requires
+    array-share-prefix-info
+    slice-aggregate-expand
+    expand-requires
+    array-share-prefix-block
+    slice-aggregate-copy
+    copy-requires
+    same-length
+    returns)

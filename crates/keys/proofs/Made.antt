@@ -1,0 +1,31 @@
+-- Making Initial keys, by what the tests show.
+use Prim.Native.Nat.{ℕ, _≤_, _<_}
+use mathlib.Core.Path.{_≡_}
+use mathlib.Core.Bool.{true, false}
+use mathlib.Core.List.{List}
+use lib.ListN.{length}
+use borrow.Author.Tests.{le-leb, lt-leb}
+use Rattle.octets.specs.Outcome.{refused, given}
+use Rattle.wire.specs.Versions.{known}
+use Rattle.wire.specs.Header.{longestId}
+use Rattle.packets.specs.Protection.{Keys}
+use Rattle.keys.specs.InitialKeys.{Side, sideSecret, keysFrom, initialKeys}
+
+-- keys are the same where their parts are
+pub keys-same : (v : ℕ) {key key′ iv iv′ hp hp′ : List ℕ} → key ≡ key′ → iv ≡ iv′ → hp ≡ hp′
+    → _≡_ {A = Keys} (record { version = v; key = key; iv = iv; hp = hp }) (record { version = v; key = key′; iv = iv′; hp = hp′ })
+keys-same v p q r = rw (p, q, r)
+
+module _ (v : ℕ) (destination : List ℕ) (side : Side) where
+  pub unknown-version : known v ≡ false → initialKeys v destination side ≡ refused 4
+  unfolding initialKeys
+  unknown-version h = rw h
+
+  module _ (ours : known v ≡ true) where
+    pub long-id : longestId < length destination → initialKeys v destination side ≡ refused 5
+    unfolding initialKeys
+    long-id h = rw (ours, lt-leb (length destination) longestId h)
+
+    pub keys-made : length destination ≤ longestId → initialKeys v destination side ≡ given (keysFrom v (sideSecret v destination side))
+    unfolding initialKeys
+    keys-made h = rw (ours, le-leb (length destination) longestId h)

@@ -1,0 +1,2 @@
+pub mod InitialKeys
+pub mod Answers

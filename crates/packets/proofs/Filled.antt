@@ -1,0 +1,38 @@
+-- Small buffers filled whole: the nonce of section 5.3, and the sample.
+use Prim.Native.Nat.{ℕ, _+_, _/_, _%_, _^_, _≤_, _<_}
+use mathlib.Core.Path.{_≡_, ap, _∙_}
+use mathlib.Core.List.{List, [], _∷_, _++_, append-nil}
+use native.Mathlib.Omega.{arith}
+use lib.ListN.{length, drop, replicate, length-take, length-drop, drop-of-length-le}
+use Rattle.octets.specs.Octets.{bytes, part, laid, xor}
+use Rattle.octets.proofs.Numbers.{bytes-length}
+use Rattle.octets.proofs.Xor.{xor-length}
+use Rattle.packets.specs.Protection.{nonce}
+
+-- bytes that fill a buffer are all that it holds
+pub laid-all : (d s : List ℕ) → length d ≡ length s → laid d 0 s ≡ s
+laid-all d s e = rw (drop-of-length-le d {i = 0 + length s} (omega arith)) (append-nil s)
+
+-- a part that fills a buffer is all that it holds
+pub whole-part : (d s : List ℕ) (at len k : ℕ) → len ≡ k → at + k ≤ length s → length d ≡ k → laid d 0 (part s at len) ≡ part s at k
+whole-part d s at len k is inside fills =
+    let l : length (part s at k) ≡ k = rw (length-take k (drop at s), length-drop at s) (omega arith) in
+    rw is (laid-all d (part s at k) (omega arith))
+
+padded-bytes : (n : ℕ) → n < 2 ^ 64 → bytes 12 n ≡ 0 ∷ 0 ∷ 0 ∷ 0 ∷ bytes 8 n
+unfolding bytes
+padded-bytes n h =
+    let a : n / 256 ^ 11 % 256 ≡ 0 = omega arith in
+    let b : n / 256 ^ 10 % 256 ≡ 0 = omega arith in
+    let c : n / 256 ^ 9 % 256 ≡ 0 = omega arith in
+    let d : n / 256 ^ 8 % 256 ≡ 0 = omega arith in
+    rw (a, b, c, d)
+
+pub padded : (n : ℕ) → n < 2 ^ 64 → laid (replicate 12 0) 4 (bytes 8 n) ≡ bytes 12 n
+padded n h = rw (bytes-length 8 n, padded-bytes n h, append-nil (bytes 8 n))
+
+pub combined : (iv : List ℕ) (n : ℕ) → length iv ≡ 12 → n < 2 ^ 64
+    → laid (replicate 12 0) 0 (xor iv (laid (replicate 12 0) 4 (bytes 8 n))) ≡ nonce iv n
+unfolding nonce
+combined iv n twelve h =
+    rw (padded n h) (laid-all (replicate 12 0) (xor iv (bytes 12 n)) (omega (arith, xor-length iv (bytes 12 n))))

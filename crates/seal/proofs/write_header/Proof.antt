@@ -1,0 +1,80 @@
+-- The fields before the number, and the number's low bytes behind them.
+use Prim.Native.Nat.{ℕ, _+_, _-_, _*_}
+use mathlib.Core.List.{List, _∷_}
+use borrow.Author.Needs.{needs}
+use native.Mathlib.Omega.{arith}
+use lib.ListN.{length}
+use Rattle.octets.specs.Octets.{bytes}
+use Rattle.octets.proofs.Buffers.{goes-on}
+use Rattle.wire.specs.Written.{firstByte, initialFields}
+use Rattle.wire.proofs.Versions.{initial-fits}
+use Rattle.packets.proofs.Sealing.{initial-length}
+use Rattle.seal.proofs.write_header.Statement.{statement}
+use Rattle.seal.proofs.write_header.Tie as tie
+use Rattle.seal.proofs.write_header.Reads as reads
+use Rattle.seal.proofs.write_header.Lts as lts
+use Rattle.octets.proofs.store.Reads as store-reads
+use Rattle.wire.proofs.version.initial_type.Reads as initial-type-reads
+use Rattle.wire.proofs.writing.write_initial.Reads as write-initial-reads
+
+initial-type-requires : tie.Need-initial-type-requires
+initial-type-requires c κs = search needs
+
+mul-first : tie.Need-mul-first
+mul-first c = omega (arith, c .initial-type .ensures, initial-fits (c .before .before .before .before .before .before .args .version))
+
+add-first : tie.Need-add-first
+add-first c = omega (arith, c .initial-type .ensures, initial-fits (c .before .before .before .before .before .before .args .version))
+
+sub-first : tie.Need-sub-first
+sub-first c = search needs
+
+cast-first : tie.Need-cast-first
+cast-first c = search needs
+
+add-first-2 : tie.Need-add-first-2
+add-first-2 c = omega (arith, c .initial-type .ensures, initial-fits (c .before .before .before .before .before .before .args .version))
+
+add-counted : tie.Need-add-counted
+add-counted c = search needs
+
+add-counted-2 : tie.Need-add-counted-2
+add-counted-2 c = search needs
+
+write-initial-requires : tie.Need-write-initial-requires
+write-initial-requires c κs = search needs
+
+store-requires : tie.Need-store-requires
+store-requires c κs =
+    (omega arith, omega (arith, c .before .before .before .write-initial .ensures .ends, c .before .before .before .write-initial .kept, initial-length (c .before .before .before .before .before .before .before .before .before .before .before .args .version) (c .before .before .before .before .before .before .before .before .before .before .before .args .destination .now) (c .before .before .before .before .before .before .before .before .before .before .before .args .source .now) (c .before .before .before .before .before .before .before .before .before .before .before .args .token .now) (c .before .before .before .before .before .before .before .before .before .before .before .args .count + length (c .before .before .before .before .before .before .before .before .before .before .before .args .payload .now) + 16)))
+
+same-length : tie.Need-same-length
+same-length c = search needs
+
+returns : tie.Need-returns
+unfolding firstByte
+returns c =
+    let a = c .before .before .before .before .before .before .before .before .before .before .before .before .before .before .args in
+    let type = c .before .before .before .before .before .before .before .before .initial-type .result in
+    let counted = a .count + length (a .payload .now) + 16 in
+    let front : List ℕ = (192 + type * 16 + (a .count - 1)) ∷ initialFields (a .version) (a .destination .now) (a .source .now) (a .token .now) counted in
+    let begins = c .before .before .before .before .before .before .write-initial .ensures in
+    let more = goes-on front (bytes (a .count) (a .number)) (a .buffer .now) _ _ _ (begins .holds) (c .before .before .store .ensures) (begins .ends) in
+    record { holds = rw (← (c .before .before .before .before .before .before .before .before .initial-type .ensures)) more; stands = begins .ends }
+
+pub write-header-spec : {M : Type 1} → statement M
+write-header-spec =
+    tie.close
+    (tie.spec
+    initial-type-requires
+    mul-first
+    add-first
+    sub-first
+    cast-first
+    add-first-2
+    add-counted
+    add-counted-2
+    write-initial-requires
+    store-requires
+    same-length
+    returns)

@@ -1,0 +1,75 @@
+-- After i turns the bytes of the first i words are written.
+use Prim.Native.Nat.{ℕ, _-_, _*_, _≤_}
+use mathlib.Core.List.{List}
+use mathlib.Core.Path.{_≡_, refl, ap, _∙_}
+use borrow.Author.Needs.{needs}
+use native.Mathlib.Omega.{arith}
+use lib.ListN.{length, getD}
+use Rattle.octets.specs.Octets.{bytes, laid}
+use Rattle.sha256.proofs.Digest.{written, written-none, written-more, written-all}
+use Rattle.sha256.proofs.digest_bytes.Statement.{statement}
+use Rattle.sha256.proofs.digest_bytes.Tie as tie
+
+abbrev Inv-loop : tie.InvT-loop
+Inv-loop h bytes₀ i₀ bytes i = (i ≤ 8) × (length bytes ≡ 32) × (bytes ≡ written h i)
+
+abbrev μ-loop : tie.MeasureT-loop
+μ-loop h bytes₀ i₀ bytes i = 8 - i
+
+loop-holds : tie.Need-loop-holds Inv-loop μ-loop
+loop-holds c = (omega arith, refl, written-none (c .args .t1))
+
+slice-aggregate-store : tie.Need-slice-aggregate-store Inv-loop μ-loop
+slice-aggregate-store c = search needs
+
+mul-store : tie.Need-mul-store Inv-loop μ-loop
+mul-store c = search needs
+
+mul-store-2 : tie.Need-mul-store-2 Inv-loop μ-loop
+mul-store-2 c = search needs
+
+array-read-store : tie.Need-array-read-store Inv-loop μ-loop
+array-read-store c = search needs
+
+cast-store : tie.Need-cast-store Inv-loop μ-loop
+cast-store c = search needs
+
+store-requires : tie.Need-store-requires Inv-loop μ-loop
+store-requires c κs = search needs
+
+add-i : tie.Need-add-i Inv-loop μ-loop
+add-i c = search needs
+
+loop-less : tie.Need-loop-less Inv-loop μ-loop
+loop-less c = search needs
+
+loop-again : tie.Need-loop-again Inv-loop μ-loop
+loop-again c =
+    let l = c .before .before .before .before .loop in
+    let h = c .before .before .before .before .before .args .t1 in
+    let eight : length h ≡ 8 = search needs in
+    let stored = c .before .store in
+    (omega arith, stored .kept .0 ∙ l .inv .1, stored .ensures ∙ ap (λ (b : List ℕ). laid b (4 * l .i) (bytes 4 (getD h (l .i) 0))) (l .inv .2) ∙ written-more h (l .i) (omega arith))
+
+returns : tie.Need-returns Inv-loop μ-loop
+returns c =
+    let l = c .before .loop in
+    l .inv .2 ∙ written-all (c .before .before .args .t1) (l .i) (search needs) (omega arith)
+
+pub digest-bytes-spec : {M : Type 1} → statement M
+digest-bytes-spec =
+    tie.close
+    (tie.spec
+    Inv-loop
+    μ-loop
+    loop-holds
+    slice-aggregate-store
+    mul-store
+    mul-store-2
+    array-read-store
+    cast-store
+    store-requires
+    add-i
+    loop-less
+    loop-again
+    returns)

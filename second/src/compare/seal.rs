@@ -1,0 +1,310 @@
+//! `dw_seal`: RFC 9001 sections 5.3 and 5.4.
+
+use super::faults::{every_set, put_in, Fault};
+use super::sample::{self, Bytes, MILLION, WRONG_LENGTHS};
+use super::shorten::Gap;
+use super::{Call, Entry, Hex, Tally};
+use crate::effect::Effect;
+use crate::library::{self, SealArguments};
+use crate::random::Random;
+use second::integer;
+use second::keys::Keys;
+use second::numbers::{smallest_length, NUMBER_LIMIT};
+use second::seal::{seal, Plain};
+use std::borrow::Cow;
+use std::fmt::{self, Display, Formatter};
+
+pub const ENTRY: Entry = Entry {
+    name: "dw_seal",
+    parts: &[
+        ("payloads of every size", payload_sizes),
+        ("tokens of every size", token_sizes),
+        ("packets around 1,500 bytes", largest),
+        ("the smallest payloads beside every number's length", small_payloads),
+        ("outputs of no byte, one short, exact and longer", rooms),
+        ("gaps and lengths", gaps),
+        ("every set of faults", fault_sets),
+        ("any arguments", any),
+        ("slices of a million bytes and more", huge),
+    ],
+    refusals: &[1, 4, 5, 7, 8, 10, 12, 14],
+};
+
+#[derive(Clone)]
+struct Seal {
+    keys: [u8; 48],
+    gap: Gap,
+    length: usize,
+    destination: Bytes,
+    source: Bytes,
+    token: Bytes,
+    payload: Bytes,
+    /// the lent bytes before the call
+    output: Vec<u8>,
+}
+
+impl Display for Seal {
+    fn fmt(&self, formatter: &mut Formatter) -> fmt::Result {
+        let [destination, source, token, payload] =
+            [&self.destination, &self.source, &self.token, &self.payload].map(|bytes| Hex(bytes));
+        write!(formatter, "keys {}, {}, length {:#x}, ", Hex(&self.keys), self.gap, self.length)?;
+        write!(formatter, "destination {destination}, source {source}, token {token}, payload {payload}, ")?;
+        write!(formatter, "lent {} bytes {}", self.output.len(), Hex(&self.output))
+    }
+}
+
+impl Call<1> for Seal {
+    fn ours(&self) -> Effect<1> {
+        let plain = Plain {
+            number: self.gap.number,
+            acknowledged: self.gap.acknowledged(),
+            number_length: self.length,
+            destination: &self.destination,
+            source: &self.source,
+            token: &self.token,
+            payload: &self.payload,
+        };
+        let mut output = self.output.clone();
+        let written = seal(&Keys::from_record(&self.keys), &plain, &mut output);
+        Effect::writing(written.map(|length| [length as u64]), output)
+    }
+
+    fn theirs(&self) -> Effect<1> {
+        let arguments = SealArguments {
+            keys: &self.keys,
+            number: self.gap.number,
+            any_acknowledged: self.gap.any_acknowledged,
+            acknowledged: self.gap.acknowledged,
+            length: self.length,
+            destination: &self.destination,
+            source: &self.source,
+            token: &self.token,
+            payload: &self.payload,
+        };
+        library::seal(&arguments, &self.output)
+    }
+}
+
+impl Seal {
+    /// A packet that can be sealed, with a token and a payload of the sizes named and no room to be written in yet.
+    fn valid(random: &mut Random, token: usize, payload: usize) -> Seal {
+        let version = sample::known_version(random);
+        let gap = Gap::covered(random);
+        let smallest = smallest_length(gap.number, gap.acknowledged()).expect("a covered gap");
+        let short_payload = 4usize.saturating_sub(payload).max(1);
+        Seal {
+            keys: sample::record(random, version),
+            gap,
+            length: random.between(smallest.max(short_payload)..=4),
+            destination: sample::id(random).into(),
+            source: sample::id(random).into(),
+            token: random.bytes(token).into(),
+            payload: random.bytes(payload).into(),
+            output: Vec::new(),
+        }
+    }
+
+    /// The packet's bytes, by the sum of its fields (RFC 9000 section 17.2.2); no slice may be vast.
+    fn packet_length(&self) -> usize {
+        let ids = 1 + self.destination.len() + 1 + self.source.len();
+        let token = integer::write(self.token.len() as u64).len() + self.token.len();
+        1 + 4 + ids + token + 2 + self.length + self.payload.len() + 16
+    }
+
+    /// Lends so many bytes.
+    fn lend(&mut self, random: &mut Random, room: usize) {
+        self.output = random.bytes(room);
+    }
+
+    /// Lends what the packet needs, or a little more.
+    fn lend_enough(&mut self, random: &mut Random) {
+        let more = random.pick(&[0, 0, 1, 2, 15, 16, 17, 40]);
+        self.lend(random, self.packet_length() + more);
+    }
+
+    /// What the sizes alone decide, for a packet that is right otherwise.
+    fn known(&self) -> u32 {
+        if self.packet_length() > 1_500 {
+            1
+        } else if self.output.len() < self.packet_length() {
+            8
+        } else {
+            0
+        }
+    }
+}
+
+fn payload_sizes(tally: &mut Tally, random: &mut Random) {
+    for payload in 0..=1_500 {
+        let token = random.pick(&[0, 0, 1, 16, 70]);
+        let mut call = Seal::valid(random, token, payload);
+        call.lend_enough(random);
+        tally.compare_knowing(&call, call.known());
+    }
+}
+
+fn token_sizes(tally: &mut Tally, random: &mut Random) {
+    for token in (0..=1_500).chain([16_382, 16_383, 16_384, 20_000]) {
+        let payload = random.pick(&[0, 1, 3, 4, 30]);
+        let mut call = Seal::valid(random, token, payload);
+        call.lend_enough(random);
+        tally.compare_knowing(&call, call.known());
+    }
+}
+
+/// The limit is met by shares of token and payload that vary.
+fn largest(tally: &mut Tally, random: &mut Random) {
+    for _ in 0..1_000 {
+        let token = random.between(0..=1_300);
+        let mut call = Seal::valid(random, token, 4);
+        let size = random.between(1_497..=1_503);
+        let payload = 4 + size - call.packet_length();
+        call.payload = random.bytes(payload).into();
+        call.lend_enough(random);
+        if random.one_in(4) {
+            call.output.truncate(call.packet_length() - 1);
+        }
+        tally.compare_knowing(&call, call.known());
+    }
+}
+
+/// Number and payload must be four bytes together.
+fn small_payloads(tally: &mut Tally, random: &mut Random) {
+    for (length, payload) in (1..=4).flat_map(|length| (0..=5).map(move |payload| (length, payload))) {
+        for _ in 0..80 {
+            let mut call = Seal::valid(random, 0, 4);
+            call.gap = Gap { number: 7, any_acknowledged: 1, acknowledged: random.below(7) };
+            call.length = length;
+            call.payload = random.bytes(payload).into();
+            call.lend_enough(random);
+            tally.compare_knowing(&call, if length + payload < 4 { 7 } else { 0 });
+        }
+    }
+}
+
+fn rooms(tally: &mut Tally, random: &mut Random) {
+    for _ in 0..400 {
+        let (token, payload) = (random.between(0..=80), random.between(0..=80));
+        let mut call = Seal::valid(random, token, payload);
+        let needed = call.packet_length();
+        for room in [0, 1, needed - 17, needed - 16, needed - 2, needed - 1, needed, needed + 1, needed + 16, 1_600] {
+            call.lend(random, room);
+            tally.compare_knowing(&call, if room < needed { 8 } else { 0 });
+        }
+    }
+}
+
+fn gaps(tally: &mut Tally, random: &mut Random) {
+    for _ in 0..20_000 {
+        let mut call = Seal::valid(random, 0, 6);
+        call.gap = if random.one_in(3) { Gap::any(random) } else { Gap::covered(random) };
+        call.length = random.pick(&[1, 2, 3, 4]);
+        call.lend_enough(random);
+        tally.compare(&call);
+    }
+}
+
+/// In document 01's order: 4, 10, 14, 12, 5, 7, 1, 8.
+const FAULTS: [Fault<Seal>; 8] = [
+    (4, |call, random| {
+        let version = sample::unknown_version(random);
+        call.keys = sample::record(random, version);
+    }),
+    (10, |call, random| call.gap.number = NUMBER_LIMIT + (random.word() >> 2 >> random.below(62))),
+    (14, |call, random| {
+        call.gap.any_acknowledged = 1;
+        call.gap.acknowledged = call.gap.number.saturating_add(random.below(3));
+        if random.one_in(3) {
+            call.gap.any_acknowledged = 0;
+            call.gap.number |= 1 << 31;
+        }
+    }),
+    (12, |call, random| call.length = random.pick(&WRONG_LENGTHS)),
+    (5, |call, random| {
+        let long = sample::long_id(random);
+        match random.below(3) {
+            0 => call.destination = long,
+            1 => call.source = long,
+            _ => (call.destination, call.source) = (long.clone(), long),
+        }
+    }),
+    (7, |call, random| {
+        call.length = call.length.clamp(1, 3);
+        call.gap = Gap { number: 7, any_acknowledged: 1, acknowledged: 6 };
+        let payload = random.between(0..=3 - call.length);
+        call.payload = random.bytes(payload).into();
+    }),
+    (1, |call, random| {
+        let size = random.pick(&[1_500, 1_600, 16_384, 70_000]);
+        call.token = random.bytes(size).into();
+        if random.one_in(2) && call.payload.len() > 3 {
+            (call.token, call.payload) = (call.payload.clone(), call.token.clone());
+        }
+    }),
+    (8, |call, random| {
+        let room = random.between(0..=call.packet_length().min(1_500) - 1);
+        call.lend(random, room);
+    }),
+];
+
+fn fault_sets(tally: &mut Tally, random: &mut Random) {
+    for set in every_set(FAULTS.len()) {
+        for _ in 0..24 {
+            let (token, payload) = (random.between(0..=70), random.between(4..=70));
+            let mut call = Seal::valid(random, token, payload);
+            call.lend_enough(random);
+            let known = put_in(&FAULTS, &set, &mut call, random);
+            tally.compare_knowing(&call, known);
+        }
+    }
+}
+
+/// Arguments that are right for the most part, each with a chance to be anything.
+fn any(tally: &mut Tally, random: &mut Random) {
+    for _ in 0..30_000 {
+        let (token, payload) = (random.between(0..=100), random.between(0..=100));
+        let mut call = Seal::valid(random, token, payload);
+        call.lend_enough(random);
+        if random.one_in(6) {
+            call.gap = Gap::any(random);
+        }
+        if random.one_in(6) {
+            call.length = random.pick(&[1, 2, 3, 4, 0, 5, usize::MAX]);
+        }
+        if random.one_in(6) {
+            let length = random.between(0..=30);
+            call.source = random.bytes(length).into();
+        }
+        if random.one_in(6) {
+            let version = random.word() as u32;
+            call.keys = sample::record(random, version);
+        }
+        if random.one_in(6) {
+            let room = random.between(0..=300);
+            call.lend(random, room);
+        }
+        tally.compare(&call);
+    }
+}
+
+/// A slice that no packet can hold is 1, or 5 for an ID, and only after what stands before.
+fn huge(tally: &mut Tally, random: &mut Random) {
+    for slice in [Some(&MILLION[..]), sample::vast()].into_iter().flatten() {
+        for set in 1..1 << 4 {
+            let mut call = Seal::valid(random, 3, 9);
+            call.lend(random, 1_500);
+            let slices = [&mut call.token, &mut call.payload, &mut call.destination, &mut call.source];
+            for (place, field) in slices.into_iter().enumerate() {
+                if set >> place & 1 == 1 {
+                    *field = Cow::Borrowed(slice);
+                }
+            }
+            tally.compare_knowing(&call, if set >= 4 { 5 } else { 1 });
+            let mut short = Seal { payload: Cow::Borrowed(&[]), length: 3, ..call.clone() };
+            short.gap = Gap { number: 0, any_acknowledged: 0, acknowledged: 0 };
+            tally.compare_knowing(&short, if set >= 4 { 5 } else { 7 });
+            call.length = random.pick(&WRONG_LENGTHS);
+            tally.compare_knowing(&call, 12);
+        }
+    }
+}

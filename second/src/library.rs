@@ -1,0 +1,274 @@
+//! The static library: its C interface, and a safe function over each entry point that tells the call's whole effect.
+//!
+//! What is lent stands between sentinels, and the report starts out as sentinels too. So an effect also tells what a
+//! call touched that it must leave: the words and bytes beside what was lent, and on a refusal the report and the output.
+
+use crate::effect::Effect;
+
+#[link(name = "driftwicket", kind = "static")]
+extern "C" {
+    fn dw_read_integer(bytes: *const u8, len: usize, report: *mut u64) -> u32;
+    fn dw_smallest_length(number: u64, any_acknowledged: u32, acknowledged: u64, report: *mut u64) -> u32;
+    fn dw_shorten(number: u64, any_acknowledged: u32, acknowledged: u64, length: usize, report: *mut u64) -> u32;
+    fn dw_recover(expected: u64, truncated: u64, length: usize, report: *mut u64) -> u32;
+    fn dw_initial_keys(version: u32, destination: *const u8, destination_len: usize, server: u32, keys: *mut u8)
+        -> u32;
+    fn dw_seal(
+        keys: *const u8,
+        number: u64,
+        any_acknowledged: u32,
+        acknowledged: u64,
+        length: usize,
+        destination: *const u8,
+        destination_len: usize,
+        source: *const u8,
+        source_len: usize,
+        token: *const u8,
+        token_len: usize,
+        payload: *const u8,
+        payload_len: usize,
+        out: *mut u8,
+        out_len: usize,
+        report: *mut u64,
+    ) -> u32;
+    fn dw_open(
+        keys: *const u8,
+        expected: *mut u64,
+        datagram: *const u8,
+        datagram_len: usize,
+        out: *mut u8,
+        out_len: usize,
+        report: *mut u64,
+    ) -> u32;
+    fn dw_read_header(datagram: *const u8, datagram_len: usize, report: *mut u64) -> u32;
+    fn dw_write_retry(
+        version: u32,
+        original: *const u8,
+        original_len: usize,
+        destination: *const u8,
+        destination_len: usize,
+        source: *const u8,
+        source_len: usize,
+        token: *const u8,
+        token_len: usize,
+        low_bits: u64,
+        out: *mut u8,
+        out_len: usize,
+        report: *mut u64,
+    ) -> u32;
+    fn dw_check_retry(
+        original: *const u8,
+        original_len: usize,
+        datagram: *const u8,
+        datagram_len: usize,
+        report: *mut u64,
+    ) -> u32;
+}
+
+/// No answer has such a word in it.
+const SENTINEL_WORD: u64 = 0xd1f7_3c4e_b5a6_9788;
+const SENTINEL_BYTE: u8 = 0xb7;
+
+/// How many sentinels stand on each side of what is lent.
+const BESIDE: usize = 16;
+
+/// Words or bytes lent to a call, between sentinels.
+struct Lent<T> {
+    cells: Vec<T>,
+    sentinel: T,
+}
+
+impl<T: Copy + PartialEq> Lent<T> {
+    fn new(content: &[T], sentinel: T) -> Lent<T> {
+        let beside = [sentinel; BESIDE];
+        Lent { cells: [&beside, content, &beside].concat(), sentinel }
+    }
+
+    fn pointer(&mut self) -> *mut T {
+        self.cells[BESIDE..].as_mut_ptr()
+    }
+
+    fn content(&self) -> &[T] {
+        &self.cells[BESIDE..self.cells.len() - BESIDE]
+    }
+
+    fn is_spilled(&self) -> bool {
+        let (before, rest) = self.cells.split_at(BESIDE);
+        let behind = &rest[rest.len() - BESIDE..];
+        before.iter().chain(behind).any(|cell| *cell != self.sentinel)
+    }
+}
+
+/// Everything lent to one call.
+struct Loan<'a, const WORDS: usize> {
+    report: Lent<u64>,
+    output: Lent<u8>,
+    output_before: &'a [u8],
+    expected: Lent<u64>,
+    expected_before: u64,
+}
+
+impl<'a, const WORDS: usize> Loan<'a, WORDS> {
+    /// An output and an expected number, which not every call takes.
+    fn new(output: &'a [u8], expected: u64) -> Loan<'a, WORDS> {
+        Loan {
+            report: Lent::new(&[SENTINEL_WORD; WORDS], SENTINEL_WORD),
+            output: Lent::new(output, SENTINEL_BYTE),
+            output_before: output,
+            expected: Lent::new(&[expected], SENTINEL_WORD),
+            expected_before: expected,
+        }
+    }
+
+    fn effect(self, number: u32) -> Effect<WORDS> {
+        let report: [u64; WORDS] = self.report.content().try_into().expect("as many words as were lent");
+        Effect {
+            answer: if number == 0 { Ok(report) } else { Err(number) },
+            output: self.output.content().to_vec(),
+            expected: self.expected.content()[0],
+            strays: self.strays(number != 0),
+        }
+    }
+
+    /// What was touched that isn't the call's to touch.
+    fn strays(&self, refused: bool) -> Vec<&'static str> {
+        let report_touched = self.report.content().iter().any(|word| *word != SENTINEL_WORD);
+        let tests = [
+            (self.report.is_spilled(), "words beside the report were touched"),
+            (self.output.is_spilled(), "bytes beside the output were touched"),
+            (self.expected.is_spilled(), "words beside the expected number were touched"),
+            (refused && report_touched, "a refusal touched the report"),
+            (refused && self.output.content() != self.output_before, "a refusal touched the output"),
+            (refused && self.expected.content() != [self.expected_before], "a refusal moved the expected number"),
+        ];
+        tests.into_iter().filter(|(stray, _)| *stray).map(|(_, words)| words).collect()
+    }
+}
+
+// SAFETY, for every call below: each pointer comes from a slice or from a loan that outlives the call and has the length
+// that the call is told; keys are 48 bytes; a loan's report has the words that the C interface names. An empty slice's
+// pointer is not null.
+
+pub fn read_integer(bytes: &[u8]) -> Effect<2> {
+    let mut loan = Loan::new(&[], 0);
+    let number = unsafe { dw_read_integer(bytes.as_ptr(), bytes.len(), loan.report.pointer()) };
+    loan.effect(number)
+}
+
+pub fn smallest_length(number: u64, any_acknowledged: u32, acknowledged: u64) -> Effect<1> {
+    let mut loan = Loan::new(&[], 0);
+    let number = unsafe { dw_smallest_length(number, any_acknowledged, acknowledged, loan.report.pointer()) };
+    loan.effect(number)
+}
+
+pub fn shorten(number: u64, any_acknowledged: u32, acknowledged: u64, length: usize) -> Effect<1> {
+    let mut loan = Loan::new(&[], 0);
+    let number = unsafe { dw_shorten(number, any_acknowledged, acknowledged, length, loan.report.pointer()) };
+    loan.effect(number)
+}
+
+pub fn recover(expected: u64, truncated: u64, length: usize) -> Effect<1> {
+    let mut loan = Loan::new(&[], 0);
+    let number = unsafe { dw_recover(expected, truncated, length, loan.report.pointer()) };
+    loan.effect(number)
+}
+
+/// The keys are the output; there is no report.
+pub fn initial_keys(version: u32, destination: &[u8], server: u32, keys: &[u8; 48]) -> Effect<0> {
+    let mut loan = Loan::new(keys, 0);
+    let number =
+        unsafe { dw_initial_keys(version, destination.as_ptr(), destination.len(), server, loan.output.pointer()) };
+    loan.effect(number)
+}
+
+/// The arguments of sealing, as the C interface takes them.
+pub struct SealArguments<'a> {
+    pub keys: &'a [u8; 48],
+    pub number: u64,
+    pub any_acknowledged: u32,
+    pub acknowledged: u64,
+    pub length: usize,
+    pub destination: &'a [u8],
+    pub source: &'a [u8],
+    pub token: &'a [u8],
+    pub payload: &'a [u8],
+}
+
+pub fn seal(arguments: &SealArguments, output: &[u8]) -> Effect<1> {
+    let SealArguments { keys, number, any_acknowledged, acknowledged, length, destination, source, token, payload } =
+        *arguments;
+    let mut loan = Loan::new(output, 0);
+    let number = unsafe {
+        dw_seal(
+            keys.as_ptr(),
+            number,
+            any_acknowledged,
+            acknowledged,
+            length,
+            destination.as_ptr(),
+            destination.len(),
+            source.as_ptr(),
+            source.len(),
+            token.as_ptr(),
+            token.len(),
+            payload.as_ptr(),
+            payload.len(),
+            loan.output.pointer(),
+            output.len(),
+            loan.report.pointer(),
+        )
+    };
+    loan.effect(number)
+}
+
+pub fn open(keys: &[u8; 48], expected: u64, datagram: &[u8], output: &[u8]) -> Effect<5> {
+    let mut loan = Loan::new(output, expected);
+    let number = unsafe {
+        dw_open(
+            keys.as_ptr(),
+            loan.expected.pointer(),
+            datagram.as_ptr(),
+            datagram.len(),
+            loan.output.pointer(),
+            output.len(),
+            loan.report.pointer(),
+        )
+    };
+    loan.effect(number)
+}
+
+pub fn read_header(datagram: &[u8]) -> Effect<9> {
+    let mut loan = Loan::new(&[], 0);
+    let number = unsafe { dw_read_header(datagram.as_ptr(), datagram.len(), loan.report.pointer()) };
+    loan.effect(number)
+}
+
+pub fn write_retry(plain: &second::retry::Plain, output: &[u8]) -> Effect<1> {
+    let mut loan = Loan::new(output, 0);
+    let number = unsafe {
+        dw_write_retry(
+            plain.version,
+            plain.original.as_ptr(),
+            plain.original.len(),
+            plain.destination.as_ptr(),
+            plain.destination.len(),
+            plain.source.as_ptr(),
+            plain.source.len(),
+            plain.token.as_ptr(),
+            plain.token.len(),
+            plain.low_bits,
+            loan.output.pointer(),
+            output.len(),
+            loan.report.pointer(),
+        )
+    };
+    loan.effect(number)
+}
+
+pub fn check_retry(original: &[u8], datagram: &[u8]) -> Effect<7> {
+    let mut loan = Loan::new(&[], 0);
+    let number = unsafe {
+        dw_check_retry(original.as_ptr(), original.len(), datagram.as_ptr(), datagram.len(), loan.report.pointer())
+    };
+    loan.effect(number)
+}
