@@ -4,3 +4,4 @@ pub mod Parts
 pub mod Sealing
 pub mod Opening
 pub mod RoundTrip
+pub mod AesGcmLaws

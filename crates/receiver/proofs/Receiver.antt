@@ -10,9 +10,11 @@ use Rattle.packets.specs.Suite.{Suite, Laws}
 use Rattle.packets.specs.Protection.{Keys}
 use Rattle.packets.specs.Packet.{Opened, opened}
 use Rattle.packets.specs.Effects.{after}
+use Rattle.packets.specs.AesGcm.{aesGcm}
 use Rattle.packets.proofs.Sealing.{sealing}
 use Rattle.packets.proofs.RoundTrip.{opened-back}
-use Rattle.receiver.specs.Receiver.{Demand3, Parcel, Sent, rubbish, parcel, Coming, datagramOf, arrivals, expectedAfter, expectedBehind, answerOwed, Good, FairOne, Fair, Received}
+use Rattle.packets.proofs.AesGcmLaws.{aes-gcm-laws}
+use Rattle.receiver.specs.Receiver.{Demand3, Demand3At, Parcel, Sent, rubbish, parcel, Coming, datagramOf, arrivals, expectedAfter, expectedBehind, answerOwed, Good, FairOne, Fair, Received}
 
 module _ (suite : Suite) (laws : Laws suite) (keys : Keys) where
   answered : (e : ℕ) (sent : Sent) (buffer : List ℕ) → e ≤ numbers → FairOne suite keys e sent buffer
@@ -66,3 +68,7 @@ module _ (suite : Suite) (laws : Laws suite) (keys : Keys) where
 
 pub demand3 : Demand3
 demand3 = received
+
+-- at the suite that the code uses
+pub demand3-aes-gcm : Demand3At aesGcm
+demand3-aes-gcm = demand3 aesGcm aes-gcm-laws

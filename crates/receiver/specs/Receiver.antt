@@ -132,7 +132,10 @@ module _ (suite : Suite) (keys : Keys) where
     -- the larger of what was expected at first and one above the greatest number opened
     pub last : expectedAfter suite keys e (arrivals cs) ≡ max e (ahead cs)
 
--- for every suite with its laws, every key record, every number that may be expected and every fair list
+-- for every key record, every number that may be expected and every fair list
+abbrev pub Demand3At : Suite → Type 0
+Demand3At suite = (keys : Keys) (e : ℕ) (cs : List Coming) → e ≤ numbers → Fair suite keys e cs → Received suite keys e cs
+
+-- for every suite with its laws
 abbrev pub Demand3 : Type 0
-Demand3 =
-    (suite : Suite) → Laws suite → (keys : Keys) (e : ℕ) (cs : List Coming) → e ≤ numbers → Fair suite keys e cs → Received suite keys e cs
+Demand3 = (suite : Suite) → Laws suite → Demand3At suite
