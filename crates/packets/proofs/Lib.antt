@@ -3,4 +3,5 @@ pub mod Same
 pub mod Parts
 pub mod Sealing
 pub mod Opening
-pub mod Aes
+pub mod RoundTrip
+pub mod AesGcmLaws

@@ -1,1 +1,3 @@
 pub mod Boundaries
+pub mod Receiver
+pub mod Example

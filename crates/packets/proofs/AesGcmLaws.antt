@@ -1,0 +1,7 @@
+-- The suite that the code uses meets the laws that sealing, opening and the receiver rest on.
+use Rattle.gcm.proofs.Laws.{stream-length, stream-twice, tag-length}
+use Rattle.packets.specs.Suite.{Laws}
+use Rattle.packets.specs.AesGcm.{aesGcm}
+
+pub aes-gcm-laws : Laws aesGcm
+aes-gcm-laws = record { stream-length = stream-length; stream-twice = stream-twice; tag-length = tag-length }
