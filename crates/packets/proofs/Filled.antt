@@ -1,7 +1,7 @@
 -- Small buffers filled whole: the nonce of section 5.3, and the sample.
 use Prim.Native.Nat.{ℕ, _+_, _/_, _%_, _^_, _≤_, _<_}
-use mathlib.Core.Path.{_≡_, ap, _∙_}
-use mathlib.Core.List.{List, [], _∷_, _++_, append-nil}
+use mathlib.Core.Path.{_≡_}
+use mathlib.Core.List.{List, _∷_, append-nil}
 use native.Mathlib.Omega.{arith}
 use lib.ListN.{length, drop, replicate, length-take, length-drop, drop-of-length-le}
 use Rattle.octets.specs.Octets.{bytes, part, laid, xor}

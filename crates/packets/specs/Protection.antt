@@ -4,7 +4,6 @@ use mathlib.Core.List.{List, [], _∷_}
 use lib.Bits.{bitXor}
 use lib.ListN.{getD, drop}
 use Rattle.octets.specs.Octets.{bytes, part, xor, laid}
-use Rattle.packets.specs.Suite.{Suite}
 
 -- one sender's keys
 pub record Keys : Type 0 where

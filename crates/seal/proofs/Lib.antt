@@ -1,3 +1,4 @@
 pub mod Masking
 pub mod Bodies
 pub mod Protecting
+pub mod Answers

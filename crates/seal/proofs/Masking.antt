@@ -1,10 +1,10 @@
 -- The mask over a packet that stands at a buffer's start.
 use Prim.Native.Nat.{ℕ, _+_, _-_, _%_, _≤_}
-use mathlib.Core.Path.{_≡_, refl, ap, ap₂, _∙_}
-use mathlib.Core.List.{List, [], _∷_, _++_}
+use mathlib.Core.Path.{_≡_}
+use mathlib.Core.List.{List, [], _∷_}
 use native.Mathlib.Omega.{arith}
 use lib.Bits.{bitXor}
-use lib.ListN.{length, getD, take, drop, length-drop, replicate}
+use lib.ListN.{length, getD, take, drop, length-drop}
 use lib.Seq.{length-take-le, take-all, take-at}
 use Rattle.octets.specs.Octets.{part, xor, laid}
 use Rattle.packets.specs.Protection.{onFirst, onNumber, masked}

@@ -1,18 +1,18 @@
 -- The packet at a buffer's start: the plain header, the body behind it, and the mask over both.
 use Prim.Native.Nat.{ℕ, suc, _+_, _≤_}
 use mathlib.Core.Path.{_≡_, refl, sym, ap, ap₂, _∙_}
-use mathlib.Core.List.{List, [], _∷_, _++_, append-assoc}
+use mathlib.Core.List.{List, _∷_, _++_, append-assoc}
 use native.Mathlib.Omega.{arith}
-use lib.ListN.{length, getD, take, drop, length-append}
+use lib.ListN.{length, take, drop, length-append}
 use lib.Seq.{take-at, drop-at}
 use Rattle.octets.specs.Octets.{bytes, part, laid, begun}
 use Rattle.octets.proofs.Buffers.{goes-on}
 use Rattle.aes128.specs.Expansion.{cipher}
-use Rattle.wire.specs.Written.{Plain, firstByte, fields, front, plainHeader, lengthOf}
+use Rattle.wire.specs.Written.{Plain, firstByte, fields, front, plainHeader}
 use Rattle.packets.specs.Protection.{Keys, nonce, onFirst, onNumber, sampleOf, masked}
 use Rattle.packets.specs.Packet.{bodyOf, packetOf}
 use Rattle.packets.specs.AesGcm.{aesGcm}
-use Rattle.packets.proofs.Aes.{aes-laws}
+use Rattle.packets.proofs.AesGcmLaws.{aes-gcm-laws}
 use Rattle.packets.proofs.Parts.{part-front}
 use Rattle.packets.proofs.Sealing.{body-length, packet-length, short-length, masked-length}
 use Rattle.seal.specs.Sealing.{bodyWith}
@@ -29,7 +29,7 @@ mask-over : (mask f s rest : List ℕ) (b n : ℕ) → length s ≡ n
 unfolding masked
 mask-over mask f s rest b n is =
     let number : part (b ∷ (f ++ (s ++ rest))) (suc (length f)) n ≡ s
-        = ap (take n) (drop-at f (s ++ rest) (length f) refl) ∙ take-at s rest n is in
+    = ap (take n) (drop-at f (s ++ rest) (length f) refl) ∙ take-at s rest n is in
     rw number (relaid (onFirst mask b ∷ f) s (onNumber mask s) rest (suc (length f)) refl (masked-length mask s))
 
 regroup : (a b c d : List ℕ) → a ++ b ++ c ++ d ≡ a ++ (b ++ (c ++ d))
@@ -59,7 +59,7 @@ module _ (k : Keys) (p : Plain) where
   body-behind out one two place here begins then =
       let end : place + p .numberLength ≡ length header = omega (arith, header-length) in
       let plain : take (place + p .numberLength) one ≡ header
-          = rw begins (take-at header (drop (length header) out) (place + p .numberLength) (sym end)) in
+      = rw begins (take-at header (drop (length header) out) (place + p .numberLength) (sym end)) in
       goes-on header body out one two (place + p .numberLength) begins
       (then ∙ ap (λ (h : List ℕ). laid one (place + p .numberLength) (bodyWith (k .key) (nonce (k .iv) (p .packetNumber)) h (p .payload))) plain) end
 
@@ -69,7 +69,7 @@ module _ (k : Keys) (p : Plain) where
   unfolding sampleOf
   sample-inside rest enough =
       part-front (header ++ body) rest (length (front v p) + 4) 16
-      (omega (arith, length-append header body, header-length, body-length aesGcm k p aes-laws))
+      (omega (arith, length-append header body, header-length, body-length aesGcm k p aes-gcm-laws))
 
   pub protected-laid : (out one two mask three : List ℕ) (place : ℕ) → 4 ≤ p .numberLength + length (p .payload)
       → place ≡ length (front v p)
@@ -85,8 +85,10 @@ module _ (k : Keys) (p : Plain) where
       let m : List ℕ = cipher (k .hp) (sampleOf (header ++ body) (length (front v p))) in
       let is : mask ≡ m = sampled ∙ ap (cipher (k .hp)) (ap₂ sampleOf whole here ∙ sample-inside rest enough) in
       let same : length (packetOf aesGcm k p) ≡ length (header ++ body)
-          = packet-length aesGcm k p aes-laws ∙ omega (arith, length-append header body, header-length, body-length aesGcm k p aes-laws) in
-      over
-      ∙ rw (is, here, whole, regroup (fields v p) short body rest)
-        (mask-over m (fields v p) short (body ++ rest) (firstByte v p) (p .numberLength) (short-length p))
-      ∙ ?
+      = packet-length aesGcm k p aes-gcm-laws ∙ omega (arith, length-append header body, header-length, body-length aesGcm k p aes-gcm-laws) in
+      let masked-is : masked mask place (p .numberLength) two ≡ onFirst m (firstByte v p) ∷ (fields v p ++ onNumber m short ++ (body ++ rest))
+      = rw (is, here, whole, regroup (fields v p) short body rest)
+      (mask-over m (fields v p) short (body ++ rest) (firstByte v p) (p .numberLength) (short-length p)) in
+      over ∙ masked-is
+      ∙ sym (append-assoc (onFirst m (firstByte v p) ∷ (fields v p ++ onNumber m short)) body rest)
+      ∙ ap (λ (n : ℕ). packetOf aesGcm k p ++ drop n out) (sym same)

@@ -11,7 +11,7 @@ ghost use lib.ListN.{length, take};
 ghost use Rattle.octets.specs.Octets.{begun, laid, part};
 ghost use Rattle.gcm.specs.Gcm.{tagBy, hashKey};
 ghost use Rattle.wire.specs.Header.{limit};
-ghost use Rattle.wire.specs.Written.{plainHeader, front};
+ghost use Rattle.wire.specs.Written.{smallest};
 ghost use Rattle.wire.specs.Answers.{acknowledgedOf};
 ghost use Rattle.packets.specs.KeyRecord.{keysOf};
 ghost use Rattle.packets.specs.Protection.{masked};
@@ -61,12 +61,26 @@ fn write_header(
 }
 
 // Section 5.3: the tag over a header that ends at a place, and the ciphertext from there to an end.
-fn tag_over(schedule: &[u8; 176], nonce: &[u8; 12], packet: &[u8], at: usize, end: usize) -> [u8; 16]
+fn tag_over(
+    schedule: &[u8; 176],
+    nonce: &[u8; 12],
+    packet: &[u8],
+    at: usize,
+    end: usize,
+) -> [u8; 16]
     requires { ⌜ (at ≤ end) × (end ≤ length (now packet)) × (end ≤ limit) ⌝ }
     ensures { λ r. ⌜ r ≡ tagBy (now (schedule .entry)) (hashKey (now (schedule .entry))) (now (nonce .entry)) (take at (now (packet .entry))) (part (now (packet .entry)) at (end - at)) ⌝ }
 {
     let hash_key = gcm::tag::hash_key(schedule);
-    gcm::tag::make_tag(schedule, hash_key, nonce, &packet[..at], b"", b"", &packet[at..end])
+    gcm::tag::make_tag(
+        schedule,
+        hash_key,
+        nonce,
+        &packet[..at],
+        b"",
+        b"",
+        &packet[at..end],
+    )
 }
 
 // Section 5.3: the payload encrypted behind a header that stands at the buffer's start up to `at`, and the tag over both.
@@ -111,9 +125,88 @@ fn write_packet(
     let key = keys.key;
     let iv = keys.iv;
     let hp = keys.hp;
-    let place = write_header(keys.version, number, count, destination, source, token, payload, buffer);
+    let place = write_header(
+        keys.version,
+        number,
+        count,
+        destination,
+        source,
+        token,
+        payload,
+        buffer,
+    );
     let nonce = packets::nonce_of(&iv, number);
     write_body(&key, &nonce, payload, buffer, place + count);
     let mask = packets::mask_of(&hp, buffer, place);
     protect(mask, place, count, buffer);
+}
+
+// How long the packet is, where no part of it is over the limit.
+fn size_of(count: usize, destination: usize, source: usize, token: usize, payload: usize) -> usize
+    requires { ⌜ (count ≤ 4) × (destination ≤ limit) × (source ≤ limit) × (token ≤ limit) × (payload ≤ limit) ⌝ }
+    ensures { λ r. ⌜ r ≡ 9 + destination + source + length (smallest token) + token + (count + payload + 16) ⌝ }
+{
+    9 + destination + source + wire::writing::smallest_form(token) + token + (count + payload + 16)
+}
+
+// A packet sealed at the buffer's start, its number in `count` bytes; the answer is its length, and the bytes behind it stay.
+pub fn seal(
+    keys: Keys,
+    number: FullPn,
+    acknowledged: Acknowledged,
+    count: usize,
+    destination: &[u8],
+    source: &[u8],
+    token: &[u8],
+    payload: &[u8],
+    out: &mut [u8],
+) -> Sealing
+    ensures { λ r. ⌜ Seal (keysOf keys) (acknowledgedOf acknowledged) (record { destination = now (destination .entry); source = now (source .entry); token = now (token .entry); payload = now (payload .entry); packetNumber = number .0; numberLength = count }) (now (out .entry)) r (now (out .exit)) ⌝ }
+{
+    if !wire::version::is_known(keys.version) {
+        return Sealing::Refused(refusal::VERSION);
+    }
+    match shorten(number, acknowledged, count) {
+        Shortened::Refused(why) => return Sealing::Refused(why),
+        Shortened::Short(_) => {}
+    }
+    if LONGEST_ID < destination.len() {
+        return Sealing::Refused(refusal::LONG_ID);
+    }
+    if LONGEST_ID < source.len() {
+        return Sealing::Refused(refusal::LONG_ID);
+    }
+    if count + payload.len() < 4 {
+        return Sealing::Refused(refusal::SHORT);
+    }
+    if LIMIT < token.len() {
+        return Sealing::Refused(refusal::SIZE);
+    }
+    if LIMIT < payload.len() {
+        return Sealing::Refused(refusal::SIZE);
+    }
+    let size = size_of(
+        count,
+        destination.len(),
+        source.len(),
+        token.len(),
+        payload.len(),
+    );
+    if LIMIT < size {
+        return Sealing::Refused(refusal::SIZE);
+    }
+    if out.len() < size {
+        return Sealing::Refused(refusal::ROOM);
+    }
+    write_packet(
+        keys,
+        number.0,
+        count,
+        destination,
+        source,
+        token,
+        payload,
+        out,
+    );
+    Sealing::Written(size)
 }

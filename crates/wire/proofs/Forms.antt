@@ -1,10 +1,12 @@
 -- Fields written: the smallest form of an integer by its size, and lengths.
 use Prim.Native.Nat.{ℕ, _+_, _^_, _≤_, _<_}
-use mathlib.Core.Path.{_≡_, ap, _∙_}
+use mathlib.Core.Path.{_≡_, refl, ap, _∙_}
+use mathlib.Core.Bool.{Bool, true, false}
+use lib.Dec.{ltb}
 use native.Mathlib.Omega.{arith}
 use mathlib.Core.List.{List, _++_}
 use lib.ListN.{length, length-append}
-use borrow.Author.Tests.{lt-ltb, le-ltb}
+use borrow.Author.Tests.{lt-ltb, le-ltb, ltb-true, ltb-false}
 use Rattle.octets.specs.Octets.{bytes}
 use Rattle.octets.proofs.Numbers.{bytes-length}
 use Rattle.wire.specs.Written.{smallest, two, withLength, longFields}
@@ -34,6 +36,15 @@ module _ (n : ℕ) where
 
   pub four-length : 2 ^ 14 ≤ n → length (smallest n) ≡ 4
   four-length l = ap length (smallest-four l) ∙ bytes-length 4 (2 ^ 31 + n)
+
+-- at most four bytes
+pub smallest-few : (n : ℕ) → length (smallest n) ≤ 4
+smallest-few n = by (ltb n (2 ^ 6)) (ltb n (2 ^ 14)) refl refl
+  where
+    by : (a b : Bool) → ltb n (2 ^ 6) ≡ a → ltb n (2 ^ 14) ≡ b → length (smallest n) ≤ 4
+    by true b p q = omega (arith, one-length n (ltb-true n (2 ^ 6) p))
+    by false true p q = omega (arith, two-length n (ltb-false n (2 ^ 6) p) (ltb-true n (2 ^ 14) q))
+    by false false p q = omega (arith, four-length n (ltb-false n (2 ^ 14) q))
 
 -- ---- what every long header begins with
 pub long-length : (v : ℕ) (destination source : List ℕ) → length (longFields v destination source) ≡ 6 + length destination + length source

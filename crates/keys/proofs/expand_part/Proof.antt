@@ -5,9 +5,6 @@ use Rattle.wire.specs.Versions.{version1, draft2}
 use Rattle.wire.proofs.Versions.{version-one, version-other}
 use Rattle.keys.proofs.expand_part.Statement.{statement}
 use Rattle.keys.proofs.expand_part.Tie as tie
-use Rattle.keys.proofs.expand_part.Reads as reads
-use Rattle.keys.proofs.expand_part.Lts as lts
-use Rattle.hkdf.proofs.expand_label.Reads as expand-label-reads
 
 enum-told : tie.Need-enum-told
 enum-told c = search needs

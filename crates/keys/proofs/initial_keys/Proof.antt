@@ -8,12 +8,6 @@ use Rattle.keys.specs.Answers.{sideOf, refusalOf, keysGiven}
 use Rattle.keys.proofs.Made.{unknown-version, long-id, keys-made}
 use Rattle.keys.proofs.initial_keys.Statement.{statement}
 use Rattle.keys.proofs.initial_keys.Tie as tie
-use Rattle.keys.proofs.initial_keys.Reads as reads
-use Rattle.keys.proofs.initial_keys.Lts as lts
-use Rattle.keys.proofs.blank.Reads as blank-reads
-use Rattle.keys.proofs.keys_from.Reads as keys-from-reads
-use Rattle.keys.proofs.secret_of.Reads as secret-of-reads
-use Rattle.wire.proofs.version.is_known.Reads as is-known-reads
 
 is-known-requires : tie.Need-is-known-requires
 is-known-requires c κs = search needs

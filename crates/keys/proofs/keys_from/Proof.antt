@@ -4,9 +4,6 @@ use Rattle.keys.specs.InitialKeys.{keysFrom}
 use Rattle.keys.proofs.Made.{keys-same}
 use Rattle.keys.proofs.keys_from.Statement.{statement}
 use Rattle.keys.proofs.keys_from.Tie as tie
-use Rattle.keys.proofs.keys_from.Reads as reads
-use Rattle.keys.proofs.keys_from.Lts as lts
-use Rattle.keys.proofs.expand_part.Reads as expand-part-reads
 
 slice-aggregate-expand-part : tie.Need-slice-aggregate-expand-part
 slice-aggregate-expand-part c = search needs

@@ -8,11 +8,6 @@ use Rattle.hkdf.specs.Hkdf.{extract, expandLabel}
 use Rattle.keys.specs.InitialKeys.{sideLabel, sideSecret}
 use Rattle.keys.proofs.secret_of.Statement.{statement}
 use Rattle.keys.proofs.secret_of.Tie as tie
-use Rattle.keys.proofs.secret_of.Reads as reads
-use Rattle.keys.proofs.secret_of.Lts as lts
-use Rattle.hkdf.proofs.expand_label.Reads as expand-label-reads
-use Rattle.hkdf.proofs.extract.Reads as extract-reads
-use Rattle.wire.proofs.version.salt.Reads as salt-reads
 
 salt-requires : tie.Need-salt-requires
 salt-requires c κs = search needs

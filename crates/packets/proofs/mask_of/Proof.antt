@@ -4,11 +4,6 @@ use borrow.Author.Needs.{needs}
 use Rattle.aes128.specs.Cipher.{encrypted}
 use Rattle.packets.proofs.mask_of.Statement.{statement}
 use Rattle.packets.proofs.mask_of.Tie as tie
-use Rattle.packets.proofs.mask_of.Reads as reads
-use Rattle.packets.proofs.mask_of.Lts as lts
-use Rattle.aes128.proofs.encrypt.Reads as encrypt-reads
-use Rattle.aes128.proofs.expand_key.Reads as expand-key-reads
-use Rattle.packets.proofs.sample_at.Reads as sample-at-reads
 
 expand-key-requires : tie.Need-expand-key-requires
 expand-key-requires c κs = search needs

@@ -9,10 +9,6 @@ use Rattle.octets.specs.Octets.{laid, xor}
 use Rattle.packets.proofs.Filled.{combined}
 use Rattle.packets.proofs.nonce_of.Statement.{statement}
 use Rattle.packets.proofs.nonce_of.Tie as tie
-use Rattle.packets.proofs.nonce_of.Reads as reads
-use Rattle.packets.proofs.nonce_of.Lts as lts
-use Rattle.octets.proofs.copy_masked.Reads as copy-masked-reads
-use Rattle.octets.proofs.store.Reads as store-reads
 
 slice-aggregate-store : tie.Need-slice-aggregate-store
 slice-aggregate-store c = search needs

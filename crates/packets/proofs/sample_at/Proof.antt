@@ -8,9 +8,6 @@ use Rattle.packets.specs.Protection.{sampleOf}
 use Rattle.packets.proofs.Filled.{whole-part}
 use Rattle.packets.proofs.sample_at.Statement.{statement}
 use Rattle.packets.proofs.sample_at.Tie as tie
-use Rattle.packets.proofs.sample_at.Reads as reads
-use Rattle.packets.proofs.sample_at.Lts as lts
-use Rattle.octets.proofs.copy.Reads as copy-reads
 
 add-start : tie.Need-add-start
 add-start c = search needs

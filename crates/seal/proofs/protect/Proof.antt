@@ -8,11 +8,6 @@ use lib.Seq.{length-take-le}
 use Rattle.seal.proofs.Masking.{number-taken, rest-length, mask-laid}
 use Rattle.seal.proofs.protect.Statement.{statement}
 use Rattle.seal.proofs.protect.Tie as tie
-use Rattle.seal.proofs.protect.Reads as reads
-use Rattle.seal.proofs.protect.Lts as lts
-use Rattle.octets.proofs.copy.Reads as copy-reads
-use Rattle.octets.proofs.copy_masked.Reads as copy-masked-reads
-use Rattle.octets.proofs.put.Reads as put-reads
 
 add-end : tie.Need-add-end
 add-end c = search needs

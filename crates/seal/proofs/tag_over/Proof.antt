@@ -11,10 +11,6 @@ use Rattle.packets.proofs.Parts.{part-length}
 use Rattle.seal.proofs.Bodies.{one-piece}
 use Rattle.seal.proofs.tag_over.Statement.{statement}
 use Rattle.seal.proofs.tag_over.Tie as tie
-use Rattle.seal.proofs.tag_over.Reads as reads
-use Rattle.seal.proofs.tag_over.Lts as lts
-use Rattle.gcm.proofs.tag.hash_key.Reads as hash-key-reads
-use Rattle.gcm.proofs.tag.make_tag.Reads as make-tag-reads
 
 hash-key-requires : tie.Need-hash-key-requires
 hash-key-requires c κs = search needs

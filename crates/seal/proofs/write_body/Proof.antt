@@ -4,12 +4,6 @@ use native.Mathlib.Omega.{arith}
 use Rattle.seal.proofs.Bodies.{body-laid}
 use Rattle.seal.proofs.write_body.Statement.{statement}
 use Rattle.seal.proofs.write_body.Tie as tie
-use Rattle.seal.proofs.write_body.Reads as reads
-use Rattle.seal.proofs.write_body.Lts as lts
-use Rattle.aes128.proofs.expand_key.Reads as expand-key-reads
-use Rattle.gcm.proofs.counter.crypt.Reads as crypt-reads
-use Rattle.octets.proofs.copy.Reads as copy-reads
-use Rattle.seal.proofs.tag_over.Reads as tag-over-reads
 
 expand-key-requires : tie.Need-expand-key-requires
 expand-key-requires c κs = search needs

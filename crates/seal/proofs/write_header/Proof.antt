@@ -11,11 +11,6 @@ use Rattle.wire.proofs.Versions.{initial-fits}
 use Rattle.packets.proofs.Sealing.{initial-length}
 use Rattle.seal.proofs.write_header.Statement.{statement}
 use Rattle.seal.proofs.write_header.Tie as tie
-use Rattle.seal.proofs.write_header.Reads as reads
-use Rattle.seal.proofs.write_header.Lts as lts
-use Rattle.octets.proofs.store.Reads as store-reads
-use Rattle.wire.proofs.version.initial_type.Reads as initial-type-reads
-use Rattle.wire.proofs.writing.write_initial.Reads as write-initial-reads
 
 initial-type-requires : tie.Need-initial-type-requires
 initial-type-requires c κs = search needs
