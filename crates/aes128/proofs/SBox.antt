@@ -1,11 +1,11 @@
 -- The S-box's table: its rule, by one test over its entries; and the inverse is one, by one test over the bytes.
 use Prim.Native.Nat.{ℕ, zero, suc, _<_, _≤_}
-use mathlib.Core.Path.{_≡_, refl}
+use mathlib.Core.Path.{_≡_, sym, _∙_}
 use mathlib.Core.Bool.{Bool}
-use mathlib.Core.List.{List}
-use native.Mathlib.Omega.{arith}
+use mathlib.Core.List.{List, _∷_}
+use native.Mathlib.Nat.{not-suc-le-zero, le-of-suc-le-suc}
 use lib.Dec.{T, eqb, eqb→eq}
-use lib.ListN.{length, getD, replicate}
+use lib.ListN.{length, getD, replicate, getD-replicate}
 use Rattle.octets.proofs.Rule.{each, at-each}
 use Rattle.aes128.specs.Field.{xTimes, sums, _•_, squares, inverse}
 use Rattle.aes128.specs.Cipher.{spelled, sBox, Box}
@@ -18,11 +18,16 @@ pub boxed : (table : List ℕ) → length table ≡ 256 → T (each right 0 tabl
 unfolding right
 boxed table e t = record { rule = λ b h. eqb→eq (getD table b 0) (sBox b) (at-each right table t b (rw e h)) }
 
--- section 4.4: a byte but 0 times its inverse is 1; n is one less than the byte
+-- section 4.4: a byte times its inverse is 1, and 0 at 0
+products : List ℕ
+products = 0 ∷ replicate 255 1
+
 undone : ℕ → ℕ → Bool
-undone n x = eqb (suc n • inverse (suc n)) 1
+undone b x = eqb x (b • inverse b)
 
 pub inverse-is : (b : ℕ) → 1 ≤ b → b < 256 → b • inverse b ≡ 1
-unfolding undone sums squares xTimes
-inverse-is zero l h = omega arith
-inverse-is (suc n) l h = eqb→eq (suc n • inverse (suc n)) 1 (at-each undone (replicate 255 0) tt n (omega arith))
+unfolding products undone sums squares xTimes
+inverse-is zero l h = absurd (not-suc-le-zero l)
+inverse-is (suc n) l h =
+    sym (eqb→eq (getD products (suc n) 0) (suc n • inverse (suc n)) (at-each undone products tt (suc n) h))
+    ∙ getD-replicate 255 n 1 0 (le-of-suc-le-suc h)

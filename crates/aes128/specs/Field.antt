@@ -21,11 +21,11 @@ sums (suc n) a b = bitXor (a % 2 * b) (sums n (a / 2) (xTimes b))
 abbrev pub _•_ : ℕ → ℕ → ℕ
 a • b = sums 8 a b
 
--- b^2 • b^4 • b^8 • .., n factors, each the square of the one before
+-- b • b^2 • b^4 • .., n factors, each the square of the one before
 unfoldable pub squares : ℕ → ℕ → ℕ
 squares zero b = 1
-squares (suc n) b = b • b • squares n (b • b)
+squares (suc n) b = b • squares n (b • b)
 
 -- section 4.4, (4.11): the multiplicative inverse is b^254, and 254 = 2 + 4 + .. + 128; it takes 0 to 0
 abbrev pub inverse : ℕ → ℕ
-inverse b = squares 7 b
+inverse b = squares 7 (b • b)
