@@ -25,9 +25,13 @@ products = 0 ∷ replicate 255 1
 undone : ℕ → ℕ → Bool
 undone b x = eqb x (b • inverse b)
 
-pub inverse-is : (b : ℕ) → 1 ≤ b → b < 256 → b • inverse b ≡ 1
+undone-each : T (each undone 0 products)
 unfolding products undone sums squares xTimes
+undone-each = tt
+
+pub inverse-is : (b : ℕ) → 1 ≤ b → b < 256 → b • inverse b ≡ 1
+unfolding products undone
 inverse-is zero l h = absurd (not-suc-le-zero l)
 inverse-is (suc n) l h =
-    sym (eqb→eq (getD products (suc n) 0) (suc n • inverse (suc n)) (at-each undone products tt (suc n) h))
+    sym (eqb→eq (getD products (suc n) 0) (suc n • inverse (suc n)) (at-each undone products undone-each (suc n) h))
     ∙ getD-replicate 255 n 1 0 (le-of-suc-le-suc h)

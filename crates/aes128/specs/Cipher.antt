@@ -68,14 +68,14 @@ mixed a b c d = 2 • a ⊕ 3 • b ⊕ c ⊕ d
 abbrev pub mixColumns : State → State
 mixColumns s = state (λ r c. mixed (at s r c) (at s ((r + 1) % 4) c) (at s ((r + 2) % 4) c) (at s ((r + 3) % 4) c))
 
--- (5.9): a round key of 16 bytes is added, each of its words to a column
-abbrev pub addRoundKey : State → List ℕ → State
-addRoundKey s k = state (λ r c. at s r c ⊕ getD k (r + 4 * c) 0)
+-- (5.9): a round key, its words as columns, is added
+abbrev pub addRoundKey : State → State → State
+addRoundKey s k = state (λ r c. at s r c ⊕ at k r c)
 
 -- ---- section 5.1: Cipher
--- the round key of a round, in the key schedule w
-abbrev pub roundKey : List ℕ → ℕ → List ℕ
-roundKey w round = part w (16 * round) 16
+-- the round key of a round: 16 bytes of the key schedule w, laid out as a block is
+abbrev pub roundKey : List ℕ → ℕ → State
+roundKey w round = input (part w (16 * round) 16)
 
 -- rounds 1 to n
 unfoldable pub rounds : List ℕ → ℕ → State → State

@@ -1,5 +1,6 @@
 // The key schedule (FIPS 197 section 5.2): 44 words of four bytes, one after the other.
 use super::s_box::sub_word;
+use super::state::input;
 ghost use mathlib.Core.Path.{_≡_};
 ghost use Prim.Native.Nat.{_%_, _≤_, _<_};
 ghost use lib.ListN.{length};
@@ -25,8 +26,8 @@ fn rot_word(a: [u8; 4]) -> [u8; 4]
     [a[1], a[2], a[3], a[0]]
 }
 
-// The sum of two words.
-fn sum(a: [u8; 4], b: [u8; 4]) -> [u8; 4]
+// The sum of two words, or of two rows of a state.
+pub fn sum(a: [u8; 4], b: [u8; 4]) -> [u8; 4]
     ensures { λ r. ⌜ r ≡ sum a b ⌝ }
 {
     [a[0] ^ b[0], a[1] ^ b[1], a[2] ^ b[2], a[3] ^ b[3]]
@@ -60,11 +61,11 @@ pub fn next_word(table: &[u8; 256], w: &[u8], i: usize) -> [u8; 4]
     sum(word(w, i - 4), turned(table, word(w, i - 1), i))
 }
 
-// The round key of a round.
-pub fn round_key(w: &[u8], round: usize) -> &[u8]
+// Section 5.1: the round key of a round.
+pub fn round_key(w: &[u8], round: usize) -> [[u8; 4]; 4]
     requires { ⌜ (round ≤ 10) × (length (now w) ≡ 176) ⌝ }
-    ensures { λ r. ⌜ (now r ≡ roundKey (now (w .entry)) round) × (length (now r) ≡ 16) ⌝ }
+    ensures { λ r. ⌜ r ≡ roundKey (now (w .entry)) round ⌝ }
 {
     let at = 16 * round;
-    &w[at..at + 16]
+    input(&w[at..at + 16])
 }
