@@ -87,7 +87,7 @@ fn x_times(b: u8) -> u8
     (b << 1) ^ ((b >> 7) * 0x1b)
 }
 
-// Section 5.1.3, (5.8): one byte of a mixed column.
+// Section 5.1.3: one byte of a mixed column.
 fn mix(a: u8, b: u8, c: u8, d: u8) -> u8
     ensures { λ r. ⌜ r ≡ mixed a b c d ⌝ }
 {
