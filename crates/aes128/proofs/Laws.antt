@@ -86,12 +86,13 @@ take-bytes (suc n) (x ∷ s) h zero = h 0
 take-bytes (suc n) (x ∷ s) h (suc i) = take-bytes n s (λ j. h (suc j)) i
 
 -- the last step adds the last round key to bytes of the S-box
-added-bytes : (s : State) (k : List ℕ) → Bytes k → Bytes (output (addRoundKey (shiftRows (subBytes s)) k))
+added-bytes : (s k : State) → ((r c : ℕ) → at k r c < 256) → Bytes (output (addRoundKey (shiftRows (subBytes s)) k))
 added-bytes s k h =
     output-bytes (addRoundKey (shiftRows (subBytes s)) k)
-    (state-bytes _ (λ r c. xor-lt 8 _ _ (state-bytes _ (λ r c. state-bytes _ (λ r c. sBox-lt (at s r c)) r ((c + r) % 4)) r c) (h (r + 4 * c))))
+    (state-bytes _ (λ r c. xor-lt 8 _ _ (state-bytes _ (λ r c. state-bytes _ (λ r c. sBox-lt (at s r c)) r ((c + r) % 4)) r c) (h r c)))
 
 pub encrypted-bytes : (w b : List ℕ) → Bytes w → Bytes (encrypted w b)
 unfolding encrypted
 encrypted-bytes w b h =
-    added-bytes (rounds w 9 (addRoundKey (input b) (roundKey w 0))) (roundKey w 10) (take-bytes 16 (drop 160 w) (λ i. rw (getD-drop 160 w i 0) (h (160 + i))))
+    let key = take-bytes 16 (drop 160 w) (λ i. rw (getD-drop 160 w i 0) (h (160 + i))) in
+    added-bytes (rounds w 9 (addRoundKey (input b) (roundKey w 0))) (roundKey w 10) (state-bytes _ (λ r c. key (r + 4 * c)))

@@ -6,7 +6,7 @@ use native.Mathlib.Nat.{not-suc-le-zero}
 use native.Mathlib.Omega.{arith}
 use Rattle.aes128.specs.Cipher.{State, input, output, subBytes, shiftRows, mixColumns, addRoundKey, roundKey, rounds, encrypted}
 
-module _ (w : List ℕ) (first s : State) {a b : State} {k : List ℕ} (sub : a ≡ subBytes s) (shift : b ≡ shiftRows a) where
+module _ (w : List ℕ) (first s : State) {a b k : State} (sub : a ≡ subBytes s) (shift : b ≡ shiftRows a) where
   -- one round more
   pub rounds-turn : (n : ℕ) {m t : State} → 1 ≤ n → s ≡ rounds w (n - 1) first → m ≡ mixColumns b → k ≡ roundKey w n → t ≡ addRoundKey m k
       → t ≡ rounds w (n + 1 - 1) first
@@ -19,7 +19,7 @@ module _ (w : List ℕ) (first s : State) {a b : State} {k : List ℕ} (sub : a 
       add ∙ ap₂ addRoundKey (mix ∙ ap mixColumns (shift ∙ ap shiftRows (sub ∙ ap subBytes here))) key ∙ ap (λ (n : ℕ). rounds w n first) after
 
   -- the last round
-  pub rounds-end : (n : ℕ) (block : List ℕ) {i t : State} {k₀ r : List ℕ} → n ≡ 10 → i ≡ input block → k₀ ≡ roundKey w 0 → first ≡ addRoundKey i k₀
+  pub rounds-end : (n : ℕ) (block : List ℕ) {i k₀ t : State} {r : List ℕ} → n ≡ 10 → i ≡ input block → k₀ ≡ roundKey w 0 → first ≡ addRoundKey i k₀
       → s ≡ rounds w (n - 1) first → k ≡ roundKey w 10 → t ≡ addRoundKey b k → r ≡ output t → r ≡ encrypted w block
   unfolding encrypted
   rounds-end n block all begin key₀ add₀ so key add out =

@@ -19,7 +19,7 @@ pub fn encrypt_with(table: &[u8; 256], schedule: &[u8; 176], block: &[u8; 16]) -
 {
     let w = &schedule[..];
     let mut s = add_round_key(state::input(block), round_key(w, 0));
-    let mut round = 1;
+    let mut round: usize = 1;
     while round < 10 {
         let mixed = mix_columns(shift_rows(sub_bytes(table, s)));
         s = add_round_key(mixed, round_key(w, round));

@@ -1,12 +1,14 @@
 // The state, four rows of four bytes, and the steps of a round (FIPS 197 sections 3.4 and 5.1.1 to 5.1.4).
 use super::s_box::sub_word;
+use super::schedule::sum;
 ghost use mathlib.Core.Path.{_≡_};
 ghost use lib.ListN.{length, getD};
 ghost use Rattle.aes128.specs.Field.{xTimes};
 ghost use Rattle.aes128.specs.Cipher.{Box, row, input, output, subBytes, shiftRows, mixed, mixColumns, addRoundKey};
 
 // Section 3.4: a block as a state, column by column.
-pub fn input(block: &[u8; 16]) -> [[u8; 4]; 4]
+pub fn input(block: &[u8]) -> [[u8; 4]; 4]
+    requires { ⌜ length (now block) ≡ 16 ⌝ }
     ensures { λ r. ⌜ r ≡ input (now (block .entry)) ⌝ }
 {
     [
@@ -85,7 +87,7 @@ fn x_times(b: u8) -> u8
     (b << 1) ^ ((b >> 7) * 0x1b)
 }
 
-// Section 5.1.3, (5.8): one byte of a mixed column.
+// Section 5.1.3: one byte of a mixed column.
 fn mix(a: u8, b: u8, c: u8, d: u8) -> u8
     ensures { λ r. ⌜ r ≡ mixed a b c d ⌝ }
 {
@@ -121,18 +123,16 @@ pub fn mix_columns(s: [[u8; 4]; 4]) -> [[u8; 4]; 4]
 }
 
 // Section 5.1.4: AddRoundKey.
-pub fn add_round_key(s: [[u8; 4]; 4], key: &[u8]) -> [[u8; 4]; 4]
-    requires { ⌜ length (now key) ≡ 16 ⌝ }
-    ensures { λ r. ⌜ r ≡ addRoundKey s (now (key .entry)) ⌝ }
+pub fn add_round_key(s: [[u8; 4]; 4], k: [[u8; 4]; 4]) -> [[u8; 4]; 4]
+    ensures { λ r. ⌜ r ≡ addRoundKey s k ⌝ }
 {
     let a = s[0];
     let b = s[1];
     let c = s[2];
     let d = s[3];
-    [
-        [a[0] ^ key[0], a[1] ^ key[4], a[2] ^ key[8], a[3] ^ key[12]],
-        [b[0] ^ key[1], b[1] ^ key[5], b[2] ^ key[9], b[3] ^ key[13]],
-        [c[0] ^ key[2], c[1] ^ key[6], c[2] ^ key[10], c[3] ^ key[14]],
-        [d[0] ^ key[3], d[1] ^ key[7], d[2] ^ key[11], d[3] ^ key[15]],
-    ]
+    let e = k[0];
+    let f = k[1];
+    let g = k[2];
+    let h = k[3];
+    [sum(a, e), sum(b, f), sum(c, g), sum(d, h)]
 }

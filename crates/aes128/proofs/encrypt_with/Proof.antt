@@ -52,9 +52,9 @@ loop-again : tie.Need-loop-again Inv-loop μ-loop
 loop-again c =
     let b = c .before .before .before .before in
     let l = b .before .before .loop in
-    let w = b .before .before .before .before .before .before .before .args .schedule .now in
+    let w = b .before .before .before .before .before .before .before .before .args .schedule .now in
     let turn = rounds-turn w _ (l .s) (b .sub-bytes .ensures) (c .before .before .before .shift-rows .ensures) (l .round) (l .inv .0) (l .inv .2)
-    (c .before .before .mix-columns .ensures) (c .before .round-key2 .ensures .0) (c .add-round-key2 .ensures) in
+    (c .before .before .mix-columns .ensures) (c .before .round-key2 .ensures) (c .add-round-key2 .ensures) in
     (omega arith, omega arith, turn)
 
 sub-bytes-requires-2 : tie.Need-sub-bytes-requires-2 Inv-loop μ-loop
@@ -77,10 +77,10 @@ returns c =
     let b = c .before .before .before .before in
     let l = b .before .before .loop in
     let f = b .before .before .before in
-    let a = f .before .before .before .before .args in
+    let a = f .before .before .before .before .before .args in
     rounds-end (a .schedule .now) _ (l .s) (b .sub-bytes2 .ensures) (c .before .before .before .shift-rows2 .ensures) (l .round) (a .block .now) (omega arith)
-    (f .before .before .input .ensures) (f .before .round-key .ensures .0) (f .add-round-key .ensures) (l .inv .2)
-    (c .before .before .round-key3 .ensures .0) (c .before .add-round-key3 .ensures) (c .output .ensures)
+    (f .before .before .input .ensures) (f .before .round-key .ensures) (f .add-round-key .ensures) (l .inv .2)
+    (c .before .before .round-key3 .ensures) (c .before .add-round-key3 .ensures) (c .output .ensures)
 
 pub encrypt-with-spec : {M : Type 1} → statement M
 encrypt-with-spec =
