@@ -1,5 +1,5 @@
 -- Counter mode, a block at a time: what is left of the text, under the counter blocks that are left, laid over the buffer as it is, gives what all gave at the start.
-use Prim.Native.Nat.{ℕ, zero, suc, _+_, _-_, _/_, _%_, _^_, _≤_, _<_}
+use Prim.Native.Nat.{ℕ, suc, _+_, _-_, _/_, _%_, _^_, _≤_, _<_}
 use mathlib.Core.Path.{_≡_, refl, sym, ap, ap₂, _∙_}
 use mathlib.Core.List.{List, [], _++_}
 use native.Mathlib.Omega.{arith}

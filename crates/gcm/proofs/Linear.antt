@@ -7,7 +7,7 @@ use native.Mathlib.Omega.{arith}
 use lib.Bits.{bitXor, xor-zero-r, xor-self, xor-comm, xor-shifted, xor-shr, xor-mod}
 use lib.Pow.{pow-pos, shr-shr, field, mod-mod-pow, split}
 use Rattle.octets.proofs.Xor.{xor-assoc, xor-left-comm}
-use Rattle.gcm.specs.Field.{R, bit, next, steps, _•_}
+use Rattle.gcm.specs.Field.{R, bit, next, steps}
 use Rattle.gcm.specs.Table.{nexts}
 
 pub xor-swap : (a b c d : ℕ) → bitXor (bitXor a b) (bitXor c d) ≡ bitXor (bitXor a c) (bitXor b d)

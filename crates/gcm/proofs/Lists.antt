@@ -7,7 +7,7 @@ use native.Mathlib.Nat.{zero-add, suc-add, add-assoc, add-mul, mul-assoc, mul-co
 use native.Mathlib.Omega.{arith}
 use lib.Bits.{bitXor}
 use lib.Dec.{lit<}
-use lib.ListN.{length, getD, take, drop, replicate, length-append, length-drop, take-append-drop, drop-of-length-le}
+use lib.ListN.{length, take, drop, replicate, length-append, length-drop, take-append-drop, drop-of-length-le}
 use lib.Pow.{pow-add, pow-pos, shr-shr, high as high-part}
 use lib.Seq.{getD-drop, drop-drop, take-add, take-all, take-at, drop-at, length-take-le}
 use Rattle.octets.specs.Octets.{Bytes, bytes, number, xor, laid}

@@ -1,5 +1,5 @@
 -- The bytes one after the other, each part closed, are GHASH of the parts padded to whole blocks.
-use Prim.Native.Nat.{ℕ, zero, suc, _+_, _-_, _*_, _/_, _%_, _^_, _≤_, _<_}
+use Prim.Native.Nat.{ℕ, zero, suc, _+_, _-_, _*_, _%_, _^_, _≤_, _<_}
 use mathlib.Core.Path.{_≡_, refl, sym, ap, ap₂, _∙_}
 use mathlib.Core.Logic.{⊎-elim}
 use mathlib.Core.List.{List, [], _∷_, _++_, foldl, foldl-append}
@@ -8,13 +8,13 @@ use native.Mathlib.Numerals.{add-one}
 use native.Mathlib.Omega.{arith}
 use borrow.Author.Tests.{lt-ltb, le-ltb}
 use lib.Bits.{bitXor, xor-block, xor-zero-r, xor-shifted}
-use lib.ListN.{length, getD, take, drop, replicate, length-append, length-drop, length-replicate, take-append-drop, drop-of-length-le}
+use lib.ListN.{length, getD, take, drop, replicate, length-drop, length-replicate, take-append-drop, drop-of-length-le}
 use lib.Pow.{pow-add, pow-pos}
 use lib.Seq.{length-take-le, drop-cons, drop-drop}
 use Rattle.octets.specs.Octets.{Bytes, number}
 use Rattle.octets.proofs.Xor.{xor-assoc}
 use Rattle.gcm.specs.Field.{_•_}
-use Rattle.gcm.specs.Hash.{State, blocks, chained, ghash, put, taken, absorbed, closed}
+use Rattle.gcm.specs.Hash.{State, blocks, chained, put, taken, absorbed, closed}
 use Rattle.gcm.proofs.Lists.{number-none, number-cons, number-below, take-bytes, drop-bytes}
 
 abbrev pub at : ℕ → ℕ → State

@@ -1,10 +1,10 @@
 -- The hash of the associated data and the ciphertext, each closed, and of their lengths, is S; its bytes under the mask are the tag.
 use Prim.Native.Nat.{ℕ, _+_, _-_, _*_, _/_, _%_, _^_, _<_, _≤_}
 use mathlib.Core.Path.{_≡_, refl, sym, ap, ap₂, _∙_}
-use mathlib.Core.List.{List, [], _∷_, _++_, append-assoc, append-nil}
+use mathlib.Core.List.{List, _++_, append-assoc, append-nil}
 use native.Mathlib.Omega.{arith}
 use lib.Bits.{bitXor}
-use lib.ListN.{length, take, drop, replicate, length-append, length-replicate}
+use lib.ListN.{length, take, replicate, length-append, length-replicate}
 use lib.Seq.{take-all}
 use Rattle.octets.specs.Octets.{Bytes, bytes, number, xor, laid}
 use Rattle.octets.proofs.Numbers.{bytes-length, number-bytes}
@@ -12,7 +12,7 @@ use Rattle.octets.proofs.Xor.{xor-length}
 use Rattle.aes128.specs.Cipher.{encrypted}
 use Rattle.aes128.proofs.Laws.{encrypted-length}
 use Rattle.gcm.specs.Field.{_•_}
-use Rattle.gcm.specs.Hash.{State, start, blocks, chained, ghash, absorbed, closed, finished}
+use Rattle.gcm.specs.Hash.{State, start, ghash, absorbed, closed, finished}
 use Rattle.gcm.specs.Gcm.{keyStream, gctr, hashKey, j0, padded, hashed}
 use Rattle.gcm.proofs.Lists.{append-bytes, bytes-bytes, zeros-bytes, bytes-append, number-append, laid-rest, laid-two}
 use Rattle.gcm.proofs.Stream.{at, absorbed-append, absorbed-filled, closed-is, block, whole}
