@@ -1,7 +1,7 @@
 // Text at a terminal: what programs of this repository print, and hex that they are given.
 use libc::STDOUT_FILENO;
 ghost use Prim.Native.Nat.{_≤_};
-ghost use lib.ListN.{length};
+ghost use Rattle.io.specs.Counts.{Counts};
 
 // The text, as it is.
 pub fn say(text: &[u8]) {
@@ -57,17 +57,22 @@ fn value(character: u8) -> u8 {
     }
 }
 
+// The smaller of two counts.
+fn least(a: usize, b: usize) -> usize
+    ensures { λ r. ⌜ (r ≤ a) × (r ≤ b) ⌝ }
+{
+    if a < b { a } else { b }
+}
+
 // The bytes that pairs of hex digits spell, put at the buffer's start as far as there is room; how many there are.
 pub fn decode(text: &[u8], buffer: &mut [u8]) -> usize
-    ensures { λ r. ⌜ r ≤ length (now (buffer .exit)) ⌝ }
+    ensures { λ r. ⌜ Counts r (now (buffer .exit)) ⌝ }
 {
+    let count = least(text.len() / 2, buffer.len());
     let mut i: usize = 0;
-    while i < buffer.len() {
-        if text.len() / 2 <= i {
-            return i;
-        }
+    while i < count {
         buffer[i] = value(text[2 * i]) % 16 * 16 + value(text[2 * i + 1]) % 16;
         i += 1;
     }
-    i
+    count
 }

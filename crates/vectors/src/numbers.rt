@@ -12,6 +12,14 @@ use wire::number::recover;
 use wire::number::shorten;
 use wire::number::smallest_length;
 
+pub fn run() {
+    integers();
+    lengths();
+    shortening();
+    recovery();
+    refused_recovery();
+}
+
 fn integer(label: &[u8], text: &[u8]) {
     let mut bytes = [0u8; 16];
     let count = terminal::decode(text, &mut bytes);
@@ -50,7 +58,7 @@ fn full(label: &[u8], expected: u64, truncated: u64, length: usize) {
     }
 }
 
-pub fn integers() {
+fn integers() {
     integer(b"RFC 9000 A.1, eight bytes", b"c2197c5eff14e88c");
     integer(b"RFC 9000 A.1, four bytes", b"9d7f3e7d");
     integer(b"RFC 9000 A.1, two bytes", b"7bbd");
@@ -65,7 +73,7 @@ pub fn integers() {
     integer(b"integer, seven of eight bytes", b"c2197c5eff14e8");
 }
 
-pub fn lengths() {
+fn lengths() {
     let acknowledged = Acknowledged::UpTo(FullPn(0xabe8b3));
     smallest(b"RFC 9000 A.2, 0xac5c02", 0xac5c02, acknowledged);
     smallest(b"RFC 9000 A.2, 0xace8fe", 0xace8fe, acknowledged);
@@ -109,7 +117,7 @@ pub fn lengths() {
     );
 }
 
-pub fn shortening() {
+fn shortening() {
     short(
         b"shorten, RFC 9000 A.2",
         0xac5c02,
@@ -186,7 +194,7 @@ pub fn shortening() {
     );
 }
 
-pub fn recovery() {
+fn recovery() {
     full(b"RFC 9000 A.3", 0xa82f30eb, 0x9b32, 2);
     full(b"recover, expected 1000, byte 104", 1000, 104, 1);
     full(b"recover, expected 1000, byte 105", 1000, 105, 1);
@@ -203,7 +211,7 @@ pub fn recovery() {
     );
 }
 
-pub fn refused_recovery() {
+fn refused_recovery() {
     full(b"recover, expected 2^62 + 1", (1 << 62) + 1, 0, 1);
     full(
         b"recover, expected 2^62 + 1 and no bytes",

@@ -1,26 +1,24 @@
--- The index stays within the buffer, whose length stays.
+-- The count stays within both slices, and the buffer keeps its length.
 use Prim.Native.Nat.{_-_, _≤_}
-use mathlib.Core.Path.{_≡_}
+use mathlib.Core.Path.{_≡_, refl, sym}
 use borrow.Author.Needs.{needs}
 use native.Mathlib.Omega.{arith}
-use lib.ListN.{length, length-set}
+use lib.ListN.{length}
+use lib.Seq.{length-take-le}
 use Rattle.terminal.proofs.decode.Statement.{statement}
 use Rattle.terminal.proofs.decode.Tie as tie
 
 abbrev Inv-loop : tie.InvT-loop
-Inv-loop text buffer₀ i₀ buffer i = (i ≤ length buffer) × (length buffer ≡ length buffer₀)
+Inv-loop text buffer₀ count i₀ buffer i = (i ≤ count) × (length buffer ≡ length buffer₀)
 
 abbrev μ-loop : tie.MeasureT-loop
-μ-loop text buffer₀ i₀ buffer i = length buffer - i
+μ-loop text buffer₀ count i₀ buffer i = count - i
+
+least-requires : tie.Need-least-requires Inv-loop μ-loop
+least-requires c κs = search needs
 
 loop-holds : tie.Need-loop-holds Inv-loop μ-loop
-loop-holds c = search needs
-
-same-length : tie.Need-same-length Inv-loop μ-loop
-same-length c = search needs
-
-returns : tie.Need-returns Inv-loop μ-loop
-returns c = search needs
+loop-holds c = (omega arith, refl)
 
 mul-value : tie.Need-mul-value Inv-loop μ-loop
 mul-value c = search needs
@@ -56,16 +54,19 @@ add-i : tie.Need-add-i Inv-loop μ-loop
 add-i c = search needs
 
 loop-less : tie.Need-loop-less Inv-loop μ-loop
-loop-less c = simp length-set (omega arith)
+loop-less c = search needs
 
 loop-again : tie.Need-loop-again Inv-loop μ-loop
-loop-again c = (simp length-set (omega arith), simp length-set (c .before .before .before .before .before .before .loop .inv .1))
+loop-again c = search needs
 
-same-length-2 : tie.Need-same-length-2 Inv-loop μ-loop
-same-length-2 c = search needs
+same-length : tie.Need-same-length Inv-loop μ-loop
+same-length c = search needs
 
-returns-2 : tie.Need-returns-2 Inv-loop μ-loop
-returns-2 c = search needs
+returns : tie.Need-returns Inv-loop μ-loop
+returns c =
+    let l = c .before .loop in
+    let fits : c .before .before .least .result ≤ length (l .buffer) = omega arith in
+    (fits, sym (length-take-le _ (l .buffer) fits))
 
 pub decode-spec : {M : Type 1} → statement M
 decode-spec =
@@ -73,9 +74,8 @@ decode-spec =
     (tie.spec
     Inv-loop
     μ-loop
+    least-requires
     loop-holds
-    same-length
-    returns
     mul-value
     shared-slice-read-value
     value-requires
@@ -89,5 +89,5 @@ decode-spec =
     add-i
     loop-less
     loop-again
-    same-length-2
-    returns-2)
+    same-length
+    returns)

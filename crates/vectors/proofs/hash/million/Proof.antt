@@ -4,8 +4,8 @@ use mathlib.Core.Path.{_≡_, refl}
 use borrow.Author.Needs.{needs}
 use native.Mathlib.Omega.{arith}
 use lib.ListN.{length}
-use Rattle.vectors_hash.proofs.hash.million.Statement.{statement}
-use Rattle.vectors_hash.proofs.hash.million.Tie as tie
+use Rattle.vectors.proofs.hash.million.Statement.{statement}
+use Rattle.vectors.proofs.hash.million.Tie as tie
 
 abbrev Inv-loop : tie.InvT-loop
 Inv-loop block value₀ i₀ t5 value i = (i ≤ 15625) × (length block ≡ 64) × (length t5 ≡ 0)

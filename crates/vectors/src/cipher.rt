@@ -1,47 +1,35 @@
 // AES-128: the vectors of FIPS 197's appendices, and the header masks of RFC 9001 appendix A.
-use super::hex::decode;
-use super::hex::line;
-ghost use mathlib.Core.Path.{_≡_};
-ghost use lib.ListN.{length};
+use crate::print::line;
+use terminal::decode;
 
 // The key schedule of a key in 32 digits.
-fn schedule(key: &[u8]) -> [u8; 176]
-    requires { ⌜ length (now key) ≡ 32 ⌝ }
-{
+fn schedule(key: &[u8]) -> [u8; 176] {
     let mut bytes = [0u8; 16];
     decode(key, &mut bytes);
     aes128::expand_key(&bytes)
 }
 
 // A block in 32 digits, encrypted.
-fn encrypted(key: &[u8], block: &[u8]) -> [u8; 16]
-    requires { ⌜ (length (now key) ≡ 32) × (length (now block) ≡ 32) ⌝ }
-{
+fn encrypted(key: &[u8], block: &[u8]) -> [u8; 16] {
     let w = schedule(key);
     let mut bytes = [0u8; 16];
     decode(block, &mut bytes);
     aes128::encrypt(&w, &bytes)
 }
 
-fn block(label: &[u8], key: &[u8], plain: &[u8])
-    requires { ⌜ (length (now key) ≡ 32) × (length (now plain) ≡ 32) ⌝ }
-{
+fn block(label: &[u8], key: &[u8], plain: &[u8]) {
     let r = encrypted(key, plain);
     line(label, &r);
 }
 
 // The first five bytes alone.
-fn mask(label: &[u8], key: &[u8], sample: &[u8])
-    requires { ⌜ (length (now key) ≡ 32) × (length (now sample) ≡ 32) ⌝ }
-{
+fn mask(label: &[u8], key: &[u8], sample: &[u8]) {
     let r = encrypted(key, sample);
     let first = [r[0], r[1], r[2], r[3], r[4]];
     line(label, &first);
 }
 
-fn expansion(label: &[u8], key: &[u8])
-    requires { ⌜ length (now key) ≡ 32 ⌝ }
-{
+fn expansion(label: &[u8], key: &[u8]) {
     let w = schedule(key);
     line(label, &w);
 }

@@ -4,8 +4,8 @@ use borrow.Author.Needs.{needs}
 use native.Mathlib.Omega.{arith}
 use lib.ListN.{length, length-take}
 use lib.Seq.{length-take-le}
-use Rattle.vectors_hash.proofs.hash.corner_vector.Statement.{statement}
-use Rattle.vectors_hash.proofs.hash.corner_vector.Tie as tie
+use Rattle.vectors.proofs.hash.corner_vector.Statement.{statement}
+use Rattle.vectors.proofs.hash.corner_vector.Tie as tie
 
 slice-aggregate-pattern : tie.Need-slice-aggregate-pattern
 slice-aggregate-pattern c = search needs

@@ -4,8 +4,8 @@ use mathlib.Core.Path.{_≡_, refl}
 use borrow.Author.Needs.{needs}
 use native.Mathlib.Omega.{arith}
 use lib.ListN.{length, length-set}
-use Rattle.vectors_hash.proofs.hash.pattern.Statement.{statement}
-use Rattle.vectors_hash.proofs.hash.pattern.Tie as tie
+use Rattle.vectors.proofs.hash.pattern.Statement.{statement}
+use Rattle.vectors.proofs.hash.pattern.Tie as tie
 
 abbrev Inv-loop : tie.InvT-loop
 Inv-loop out₀ byte₀ i₀ out byte i = (i ≤ length out) × (length out ≡ length out₀) × (byte < 263)

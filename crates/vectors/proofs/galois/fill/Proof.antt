@@ -4,8 +4,8 @@ use mathlib.Core.Path.{_≡_, refl}
 use native.Mathlib.Omega.{arith}
 use borrow.Author.Needs.{needs}
 use lib.ListN.{length, length-set}
-use Rattle.vectors_gcm.proofs.galois.fill.Statement.{statement}
-use Rattle.vectors_gcm.proofs.galois.fill.Tie as tie
+use Rattle.vectors.proofs.galois.fill.Statement.{statement}
+use Rattle.vectors.proofs.galois.fill.Tie as tie
 
 abbrev Inv-loop : tie.InvT-loop
 Inv-loop out₀ first step value₀ i₀ out value i = (i ≤ length out) × (length out ≡ length out₀)

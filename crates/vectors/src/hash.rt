@@ -1,5 +1,5 @@
 // The vectors of FIPS 180-4, RFC 4231, RFC 5869 and RFC 9001 appendix A.1.
-use crate::hex;
+use crate::print;
 ghost use Prim.Native.Nat.{_≤_};
 ghost use lib.ListN.{length};
 
@@ -16,7 +16,7 @@ pub fn run() {
 fn hash_vector(label: &[u8], message: &[u8])
     requires { ⌜ length (now message) ≤ 128 ⌝ }
 {
-    hex::line(label, &sha256::hash(message));
+    print::line(label, &sha256::hash(message));
 }
 
 // The bytes (7i + 3) mod 256, over all of a buffer.
@@ -56,27 +56,27 @@ fn million() -> [u8; 32] {
 fn hmac_vector(label: &[u8], key: &[u8], text: &[u8]) {
     let mut k = [0u8; 64];
     let mut t = [0u8; 64];
-    let key_count = hex::decode(key, &mut k);
-    let text_count = hex::decode(text, &mut t);
-    hex::line(label, &hkdf::hmac(&k[..key_count], &t[..text_count]));
+    let key_count = terminal::decode(key, &mut k);
+    let text_count = terminal::decode(text, &mut t);
+    print::line(label, &hkdf::hmac(&k[..key_count], &t[..text_count]));
 }
 
 // HKDF-Extract of a salt and input keying material, both in hexadecimal.
 fn extract_vector(label: &[u8], salt: &[u8], ikm: &[u8]) {
     let mut s = [0u8; 64];
     let mut i = [0u8; 64];
-    let salt_count = hex::decode(salt, &mut s);
-    let ikm_count = hex::decode(ikm, &mut i);
-    hex::line(label, &hkdf::extract(&s[..salt_count], &i[..ikm_count]));
+    let salt_count = terminal::decode(salt, &mut s);
+    let ikm_count = terminal::decode(ikm, &mut i);
+    print::line(label, &hkdf::extract(&s[..salt_count], &i[..ikm_count]));
 }
 
 // HKDF-Expand to 32 bytes of a pseudorandom key and an info, both in hexadecimal.
 fn expand_vector(label: &[u8], prk: &[u8], info: &[u8]) {
     let mut p = [0u8; 32];
     let mut i = [0u8; 128];
-    hex::decode(prk, &mut p);
-    let count = hex::decode(info, &mut i);
-    hex::line(label, &hkdf::expand(&p, &i[..count]));
+    terminal::decode(prk, &mut p);
+    let count = terminal::decode(info, &mut i);
+    print::line(label, &hkdf::expand(&p, &i[..count]));
 }
 
 // HKDF-Expand-Label of a secret, in hexadecimal, to as many bytes as are lent.
@@ -84,9 +84,9 @@ fn label_vector(label: &[u8], secret: &[u8], name: &[u8], out: &mut [u8])
     requires { ⌜ (length (now name) ≤ 249) × (length (now out) ≤ 32) ⌝ }
 {
     let mut s = [0u8; 32];
-    hex::decode(secret, &mut s);
+    terminal::decode(secret, &mut s);
     hkdf::expand_label(&s, name, out);
-    hex::line(label, out);
+    print::line(label, out);
 }
 
 // FIPS 180-4: the published examples.
@@ -101,7 +101,7 @@ fn fips_examples() {
         b"sha256 of 896 bits",
         b"abcdefghbcdefghicdefghijdefghijkefghijklfghijklmghijklmnhijklmnoijklmnopjklmnopqklmnopqrlmnopqrsmnopqrstnopqrstu",
     );
-    hex::line(b"sha256 of a million a", &million());
+    print::line(b"sha256 of a million a", &million());
 }
 
 // FIPS 180-4 section 5.1.1: the corners of the padding.
