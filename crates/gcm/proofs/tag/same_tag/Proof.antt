@@ -12,7 +12,7 @@ use Rattle.gcm.proofs.tag.same_tag.Statement.{statement}
 use Rattle.gcm.proofs.tag.same_tag.Tie as tie
 
 abbrev Inv-loop : tie.InvT-loop
-Inv-loop a b unlike₀ i₀ unlike i = (i ≤ length a) × (eqb unlike 0 && same (drop i a) (drop i b) ≡ same a b)
+Inv-loop a b unlike₀ i₀ unlike i = (eqb unlike 0 && same (drop i a) (drop i b) ≡ same a b) × (i ≤ length a)
 
 abbrev μ-loop : tie.MeasureT-loop
 μ-loop a b unlike₀ i₀ unlike i = length a - i
@@ -21,7 +21,7 @@ returns : tie.Need-returns Inv-loop μ-loop
 returns c = sym (same-lengths (c .before .args .a .now) (c .before .args .b .now) (c .if1 .taken))
 
 loop-holds : tie.Need-loop-holds Inv-loop μ-loop
-loop-holds c = (search needs, refl)
+loop-holds c = (refl, search needs)
 
 shared-slice-read-unlike : tie.Need-shared-slice-read-unlike Inv-loop μ-loop
 shared-slice-read-unlike c = search needs
@@ -39,13 +39,13 @@ loop-again : tie.Need-loop-again Inv-loop μ-loop
 loop-again c =
     let l = c .before .before .before .loop in
     let a = c .before .before .before .before .before .args in
-    (omega arith, same-turn (a .a .now) (a .b .now) (l .i) (l .unlike) (omega arith) (omega arith) ∙ l .inv .1)
+    (same-turn (a .a .now) (a .b .now) (l .i) (l .unlike) (omega arith) (omega arith) ∙ l .inv .0, omega arith)
 
 returns-2 : tie.Need-returns-2 Inv-loop μ-loop
 returns-2 c =
     let l = c .before .loop in
     let a = c .before .before .before .args in
-    sym (same-end (a .a .now) (a .b .now) (l .i) (l .unlike) (omega arith) (omega arith)) ∙ l .inv .1
+    sym (same-end (a .a .now) (a .b .now) (l .i) (l .unlike) (omega arith) (omega arith)) ∙ l .inv .0
 
 pub same-tag-spec : {M : Type 1} → statement M
 same-tag-spec =
