@@ -8,6 +8,7 @@ use lib.Seq.{take-at, length-take-le}
 use Rattle.octets.specs.Octets.{bytes, laid, begun}
 use Rattle.octets.proofs.Numbers.{bytes-length}
 use Rattle.octets.proofs.Buffers.{begun-more}
+use Rattle.octets.specs.Text.{ascii}
 use Rattle.hkdf.specs.Hkdf.{hmac, T, Ts, expand, tls13, info, expandLabel}
 
 -- ---- RFC 5869 section 2.3
@@ -35,7 +36,7 @@ expand-short prk text (suc L) l =
 
 -- ---- RFC 8446 section 7.1
 pub info-length : (label : List ℕ) (L : ℕ) → length (info label L) ≡ length label + 10
-unfolding info
+unfolding info tls13 ascii
 info-length label L =
     let a : List ℕ = bytes 2 L in
     let b : List ℕ = bytes 1 (length (tls13 ++ label)) in
@@ -52,7 +53,7 @@ info-length label L =
 -- the five parts, one behind the other
 pub info-written : (d label : List ℕ) (L w : ℕ) → w ≡ 6 + length label
     → laid (laid (laid (laid (laid d 0 (bytes 2 L)) 2 (bytes 1 w)) 3 tls13) 9 label) (3 + w) (bytes 1 0) ≡ begun (info label L) d
-unfolding info bytes
+unfolding info tls13 ascii bytes
 info-written d label L w e =
     let whole : w ≡ length (tls13 ++ label) = omega arith in
     let a : List ℕ = bytes 2 L in

@@ -1,15 +1,20 @@
 -- The boundary table, by computing each line.
 use mathlib.Core.Path.{refl}
-use Rattle.octets.specs.Octets.{number}
+use Rattle.octets.specs.Octets.{bytes, number, xor}
+use Rattle.octets.specs.Text.{ascii}
+use Rattle.hkdf.specs.Hkdf.{tls13, info}
 use Rattle.wire.specs.Integer.{integer}
 use Rattle.wire.specs.Numbers.{coverable, ahead, gap, halvings, smallestLength, shortened, decoded, recovered}
+use Rattle.packets.specs.Protection.{onFirst, onNumber, masked}
 use Rattle.receiver.specs.Boundaries.{Table}
 
 pub boundaries : Table
-unfolding number integer coverable ahead gap halvings smallestLength shortened decoded recovered
+unfolding bytes number xor ascii tls13 info onFirst onNumber masked integer coverable ahead gap halvings smallestLength shortened decoded recovered
 boundaries = record {
   two-bytes = refl;
   two-where-one-would-do = refl;
+  info-client-in = refl;
+  info-quicv2-key = refl;
   gap-127 = refl;
   gap-128 = refl;
   gap-largest = refl;
@@ -22,4 +27,5 @@ boundaries = record {
   at-0 = refl;
   at-2^62 = refl;
   below-2^62 = refl;
+  server-header = refl;
 }

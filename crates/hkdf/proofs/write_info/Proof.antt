@@ -5,6 +5,7 @@ use mathlib.Core.Path.{refl, ap, _∙_}
 use borrow.Author.Needs.{needs}
 use lib.ListN.{length}
 use Rattle.octets.specs.Octets.{bytes, laid}
+use Rattle.octets.specs.Text.{ascii}
 use Rattle.hkdf.specs.Hkdf.{tls13}
 use Rattle.hkdf.proofs.Info.{info-written}
 use Rattle.hkdf.proofs.write_info.Statement.{statement}
@@ -38,6 +39,7 @@ same-length : tie.Need-same-length
 same-length c = search needs
 
 returns : tie.Need-returns
+unfolding tls13 ascii
 returns c =
     let a = c .before .before .before .before .before .before .before .before .before .before .before .before .before .before .before .before .before .before .before .before .before .before .before .args in
     let label = a .label .now in
