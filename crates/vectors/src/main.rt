@@ -2,12 +2,16 @@
 mod cipher;
 mod galois;
 mod hash;
+mod initial;
 mod numbers;
 mod print;
+mod sealing;
 
 fn main() {
     numbers::run();
     hash::run();
     cipher::run();
     galois::run();
+    initial::run();
+    sealing::run();
 }
