@@ -1,0 +1,111 @@
+-- What is found is refused or judged by its tag; then it is written and the expected number moves.
+use Prim.Native.Nat.{_-_}
+use mathlib.Core.Path.{subst}
+use borrow.Author.Needs.{needs}
+use borrow.Author.Tests.{not-true, not-false}
+use native.Mathlib.Omega.{arith}
+use lib.ListN.{length}
+use Rattle.packets.specs.KeyRecord.{keysOf}
+use Rattle.open.specs.Found.{Finds}
+use Rattle.open.proofs.Answers.{refuses, tag-refused, opens}
+use Rattle.open.proofs.open.Statement.{statement}
+use Rattle.open.proofs.open.Tie as tie
+
+find-requires : tie.Need-find-requires
+find-requires c κs = search needs
+
+enum-known-why : tie.Need-enum-known-why
+enum-known-why c = search needs
+
+returns : tie.Need-returns
+returns c =
+    let a = c .before .before .before .before .before .before .before .args in
+    let is = subst (Finds (keysOf (a .keys)) (a .expected .now) (a .datagram .now) (length (a .out .now))) (c .before .why .given .1) (c .before .before .before .find .ensures) in
+    refuses (keysOf (a .keys)) (a .datagram .now) (a .expected .now) (a .out .now) is
+
+enum-known-packet : tie.Need-enum-known-packet
+enum-known-packet c = search needs
+
+expand-key-requires : tie.Need-expand-key-requires
+expand-key-requires c κs = search needs
+
+nonce-of-requires : tie.Need-nonce-of-requires
+nonce-of-requires c κs = search needs
+
+tag-matches-requires : tie.Need-tag-matches-requires
+tag-matches-requires c κs =
+    let a = c .before .before .before .before .before .before .before .before .before .before .before .before .before .before .before .before .args in
+    let f = subst (Finds (keysOf (a .keys)) (a .expected .now) (a .datagram .now) (length (a .out .now))) (c .before .before .before .before .before .before .before .before .before .before .packet .given .1) (c .before .before .before .before .before .before .before .before .before .before .before .before .find .ensures) in
+    f .within
+
+returns-2 : tie.Need-returns-2
+returns-2 c =
+    let a = c .before .before .before .before .before .before .before .before .before .before .before .before .before .before .before .before .before .before .args in
+    let f = subst (Finds (keysOf (a .keys)) (a .expected .now) (a .datagram .now) (length (a .out .now))) (c .before .before .before .before .before .before .before .before .before .before .before .before .packet .given .1) (c .before .before .before .before .before .before .before .before .before .before .before .before .before .before .find .ensures) in
+    refuses (keysOf (a .keys)) (a .datagram .now) (a .expected .now) (a .out .now) (tag-refused (keysOf (a .keys)) (a .datagram .now) (a .expected .now) (a .out .now) _ f _ _ (c .before .before .before .before .before .before .expand-key .ensures) (c .before .before .before .before .nonce-of .ensures) _ (c .before .tag-matches .ensures) (not-true _ (c .if1 .taken)))
+
+write-opened-requires : tie.Need-write-opened-requires
+write-opened-requires c κs =
+    let a = c .before .before .before .before .before .before .before .before .before .before .before .before .before .before .before .before .before .before .before .before .before .args in
+    let f = subst (Finds (keysOf (a .keys)) (a .expected .now) (a .datagram .now) (length (a .out .now))) (c .before .before .before .before .before .before .before .before .before .before .before .before .before .before .before .packet .given .1) (c .before .before .before .before .before .before .before .before .before .before .before .before .before .before .before .before .before .find .ensures) in
+    (f .within, omega arith)
+
+expected-after-requires : tie.Need-expected-after-requires
+expected-after-requires c κs =
+    let a = c .before .before .before .before .before .before .before .before .before .before .before .before .before .before .before .before .before .before .before .before .before .before .before .before .args in
+    let f = subst (Finds (keysOf (a .keys)) (a .expected .now) (a .datagram .now) (length (a .out .now))) (c .before .before .before .before .before .before .before .before .before .before .before .before .before .before .before .before .before .before .packet .given .1) (c .before .before .before .before .before .before .before .before .before .before .before .before .before .before .before .before .before .before .before .before .find .ensures) in
+    f .small
+
+add-t15 : tie.Need-add-t15
+add-t15 c =
+    let a = c .before .before .before .before .before .before .before .before .before .before .before .before .before .before .before .before .before .before .before .before .before .before .before .before .before .before .args in
+    let f = subst (Finds (keysOf (a .keys)) (a .expected .now) (a .datagram .now) (length (a .out .now))) (c .before .before .before .before .before .before .before .before .before .before .before .before .before .before .before .before .before .before .before .before .packet .given .1) (c .before .before .before .before .before .before .before .before .before .before .before .before .before .before .before .before .before .before .before .before .before .before .find .ensures) in
+    omega arith
+
+sub-t31 : tie.Need-sub-t31
+sub-t31 c =
+    let a = c .before .before .before .before .before .before .before .before .before .before .before .before .before .before .before .before .before .before .before .before .before .before .before .before .before .before .before .args in
+    let f = subst (Finds (keysOf (a .keys)) (a .expected .now) (a .datagram .now) (length (a .out .now))) (c .before .before .before .before .before .before .before .before .before .before .before .before .before .before .before .before .before .before .before .before .before .packet .given .1) (c .before .before .before .before .before .before .before .before .before .before .before .before .before .before .before .before .before .before .before .before .before .before .before .find .ensures) in
+    omega arith
+
+sub-t32 : tie.Need-sub-t32
+sub-t32 c =
+    let a = c .before .before .before .before .before .before .before .before .before .before .before .before .before .before .before .before .before .before .before .before .before .before .before .before .before .before .before .args in
+    let f = subst (Finds (keysOf (a .keys)) (a .expected .now) (a .datagram .now) (length (a .out .now))) (c .before .before .before .before .before .before .before .before .before .before .before .before .before .before .before .before .before .before .before .before .before .packet .given .1) (c .before .before .before .before .before .before .before .before .before .before .before .before .before .before .before .before .before .before .before .before .before .before .before .find .ensures) in
+    omega arith
+
+add-t33 : tie.Need-add-t33
+add-t33 c =
+    let a = c .before .before .before .before .before .before .before .before .before .before .before .before .before .before .before .before .before .before .before .before .before .before .before .before .before .before .before .before .args in
+    let f = subst (Finds (keysOf (a .keys)) (a .expected .now) (a .datagram .now) (length (a .out .now))) (c .before .before .before .before .before .before .before .before .before .before .before .before .before .before .before .before .before .before .before .before .before .before .packet .given .1) (c .before .before .before .before .before .before .before .before .before .before .before .before .before .before .before .before .before .before .before .before .before .before .before .before .find .ensures) in
+    omega arith
+
+same-length : tie.Need-same-length
+same-length c = search needs
+
+returns-3 : tie.Need-returns-3
+returns-3 c =
+    let a = c .before .before .before .before .before .before .before .before .before .before .before .before .before .before .before .before .before .before .before .before .before .before .before .before .before .before .before .before .args in
+    let f = subst (Finds (keysOf (a .keys)) (a .expected .now) (a .datagram .now) (length (a .out .now))) (c .before .before .before .before .before .before .before .before .before .before .before .before .before .before .before .before .before .before .before .before .before .before .packet .given .1) (c .before .before .before .before .before .before .before .before .before .before .before .before .before .before .before .before .before .before .before .before .before .before .before .before .find .ensures) in
+    opens (keysOf (a .keys)) (a .datagram .now) (a .expected .now) (a .out .now) _ f _ _ (c .before .before .before .before .before .before .before .before .before .before .before .before .before .before .before .before .expand-key .ensures) (c .before .before .before .before .before .before .before .before .before .before .before .before .before .before .nonce-of .ensures) _ (c .before .before .before .before .before .before .before .before .before .before .before .tag-matches .ensures) (not-false _ (c .before .before .before .before .before .before .before .before .before .before .if1 .left)) _ (c .before .before .before .expected-after .ensures) _ (c .before .before .before .before .before .before .write-opened .ensures)
+
+pub open-spec : {M : Type 1} → statement M
+open-spec =
+    tie.close
+    (tie.spec
+    find-requires
+    enum-known-why
+    returns
+    enum-known-packet
+    expand-key-requires
+    nonce-of-requires
+    tag-matches-requires
+    returns-2
+    write-opened-requires
+    expected-after-requires
+    add-t15
+    sub-t31
+    sub-t32
+    add-t33
+    same-length
+    returns-3)
