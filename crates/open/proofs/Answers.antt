@@ -1,5 +1,5 @@
 -- What a refusal leaves, and what an opening does.
-use Prim.Native.Nat.{ℕ, _+_, _-_, max}
+use Prim.Native.Nat.{ℕ, _+_, max}
 use mathlib.Core.Path.{_≡_, ap₂, _∙_}
 use mathlib.Core.Bool.{Bool, true, false}
 use mathlib.Core.List.{List, _++_}
@@ -14,9 +14,9 @@ use Rattle.packets.specs.Packet.{opened}
 use Rattle.packets.specs.AesGcm.{aesGcm}
 use Rattle.open.specs.Found.{plainOf, cipherOf, openedAs, Found, Matches, Writes}
 use Rattle.open.specs.Opening.{Open}
+use Rattle.open.specs.declared.Opened as Code
 use Rattle.open.specs.declared.Packet.{Packet}
 use Rattle.open.specs.declared.Opening.the-variants as Opening
-use Rattle.open.proofs.Pieces.{plain-length, cipher-length}
 
 module _ (k : Keys) (d : List ℕ) (e : ℕ) (before : List ℕ) where
   pub refuses : {n : ℕ} → opened aesGcm k e d (length before) ≡ refused n → Open k d e e before before (Opening.Refused n)
@@ -32,20 +32,14 @@ module _ (k : Keys) (d : List ℕ) (e : ℕ) (before : List ℕ) where
     unfolding tag
     tag-right is = f .left ∙ rw (← expanded, ← combined, ← judged, is)
 
-    pub opens : r ≡ true → (next : ℕ) → next ≡ max e (p .number .0 + 1) → (then : List ℕ) → Writes schedule once d p before then
-        → Open k d e next before then (Opening.Opened (record {
-          number = p .number;
-          «number_length» = p .count;
-          «header_length» = p .place + p .count;
-          «payload_length» = p .length - p .count - 16;
-          used = p .place + p .length;
-        }))
+    pub opens : r ≡ true → (next : ℕ) → next ≡ max e (p .number .0 + 1) → (then : List ℕ) (o : Code.Opened) → Writes schedule once d p before then o
+        → Open k d e next before then (Opening.Opened o)
     unfolding stream
-    opens is next moved then laid =
+    opens is next moved then o w =
         let right = tag-right is in
-        let payload = stream-length (k .key) (nonce (k .iv) (p .number .0)) (cipherOf d p) ∙ cipher-length d p (f .within) in
+        let payload = stream-length (k .key) (nonce (k .iv) (p .number .0)) (cipherOf d p) in
         record {
-          answer = rw (right, payload, plain-length d p (f .within));
+          answer = rw (right, payload, w .number, w .numberLength, w .headerLength, w .payloadLength, w .bytesUsed);
           number = rw right moved;
-          buffer = rw right (laid ∙ ap₂ (λ (s n : List ℕ). begun (plainOf d p ++ streamBy s n (cipherOf d p)) before) expanded combined);
+          buffer = rw right (w .written ∙ ap₂ (λ (s n : List ℕ). begun (plainOf d p ++ streamBy s n (cipherOf d p)) before) expanded combined);
         }

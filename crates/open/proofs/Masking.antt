@@ -39,7 +39,8 @@ pub unmasks : (k : Keys) (d mask short : List ℕ) (place : ℕ) (b : Bare) → 
     → Spells short (b .truncated .0)
     → Unmasks k d place b
 unmasks k d mask short place b inside its-mask its-first its-length its-number s =
-    let u : Unmasked aesGcm k d place mask (b .first) (b .count) short =
-    record { its-mask = its-mask; its-first = its-first; its-length = its-length; its-number = its-number } in
-    let counted = number-length u inside in
-    record { small = rw (← counted) (s .small); bare = rw (← its-mask, sym (s .spelled ∙ ap (λ (n : ℕ). bytes n (b .truncated .0)) counted)) u }
+    let counted = number-length under inside in
+    record { small = rw (← counted) (s .small); bare = rw (← its-mask, sym (s .spelled ∙ ap (λ (n : ℕ). bytes n (b .truncated .0)) counted)) under }
+  where
+    under : Unmasked aesGcm k d place mask (b .first) (b .count) short
+    under = record { its-mask = its-mask; its-first = its-first; its-length = its-length; its-number = its-number }

@@ -1,11 +1,10 @@
 -- The tag over a packet's pieces, and the pieces written one behind the other.
 use Prim.Native.Nat.{ℕ, _+_, _-_}
 use mathlib.Core.Path.{_≡_, refl, sym, ap, _∙_}
-use mathlib.Core.Bool.{Bool}
+use mathlib.Core.Bool.{Bool, _&&_}
 use mathlib.Core.List.{List, [], _∷_, _++_}
 use native.Mathlib.Omega.{arith}
 use lib.Dec.{eqb}
-use mathlib.Core.Bool.{_&&_}
 use lib.ListN.{length, take, drop, length-append}
 use lib.Seq.{take-at}
 use Rattle.octets.specs.Octets.{bytes, part, laid}
@@ -27,30 +26,27 @@ same-same (x ∷ xs) [] = refl
 same-same (x ∷ xs) (y ∷ ys) = ap (λ (b : Bool). eqb x y && b) (same-same xs ys)
 
 -- a short number put at the start of a small buffer, and taken from there
-pub number-taken : (buffer : List ℕ) (n t : ℕ) → take n (laid buffer 0 (bytes n t)) ≡ bytes n t
+number-taken : (buffer : List ℕ) (n t : ℕ) → take n (laid buffer 0 (bytes n t)) ≡ bytes n t
 number-taken buffer n t = take-at (bytes n t) (drop (0 + length (bytes n t)) buffer) n (bytes-length n t)
 
 module _ (d : List ℕ) (p : Packet) (w : Within d p) where
   abbrev middle : List ℕ
   middle = part d 1 (p .place - 1)
 
-  pub middle-length : length middle ≡ p .place - 1
+  middle-length : length middle ≡ p .place - 1
   middle-length = part-length d 1 (p .place - 1) (omega arith)
 
-  pub plain-length : length (plainOf d p) ≡ p .place + p .count
+  plain-length : length (plainOf d p) ≡ p .place + p .count
   plain-length =
       omega (arith, length-append middle (bytes (p .count) (p .truncated .0)), middle-length, bytes-length (p .count) (p .truncated .0))
 
-  pub cipher-length : length (cipherOf d p) ≡ p .length - p .count - 16
+  cipher-length : length (cipherOf d p) ≡ p .length - p .count - 16
   cipher-length = part-length d (p .place + p .count) (p .length - p .count - 16) (omega arith)
 
   cipher-is : part d (p .place + p .count) (p .place + p .length - 16 - (p .place + p .count)) ≡ cipherOf d p
   cipher-is =
       let counted : p .place + p .length - 16 - (p .place + p .count) ≡ p .length - p .count - 16 = omega arith in
       rw counted
-
-  pub cipher-taken : length (part d (p .place + p .count) (p .place + p .length - 16 - (p .place + p .count))) ≡ p .length - p .count - 16
-  cipher-taken = ap length cipher-is ∙ cipher-length
 
   tag-is : part d (p .place + p .length - 16) (p .place + p .length - (p .place + p .length - 16)) ≡ tagOf d p
   tag-is =
@@ -69,12 +65,26 @@ module _ (d : List ℕ) (p : Packet) (w : Within d p) where
         ∙ rw (its-tag, its-key, its-number, number-taken buffer (p .count) (p .truncated .0), cipher-is, tag-is)
 
     -- first byte, middle, number, payload
-    pub written : (b b₁ b₂ b₃ b₄ : List ℕ) → b₁ ≡ laid b 0 (p .first ∷ []) → b₂ ≡ laid b₁ 1 middle
+    pub writes : (b b₁ b₂ b₃ b₄ : List ℕ) → b₁ ≡ laid b 0 (p .first ∷ []) → b₂ ≡ laid b₁ 1 middle
         → b₃ ≡ laid b₂ (p .place) (bytes (p .count) (p .truncated .0))
         → b₄ ≡ laid b₃ (p .place + p .count) (streamBy schedule nonce (part d (p .place + p .count) (p .place + p .length - 16 - (p .place + p .count))))
-        → Writes schedule nonce d p b b₄
-    written b b₁ b₂ b₃ b₄ one two three four =
+        → Writes schedule nonce d p b b₄ (record {
+          number = p .number;
+          «number_length» = p .count;
+          «header_length» = p .place + p .count;
+          «payload_length» = p .place + p .length - 16 - (p .place + p .count);
+          used = p .place + p .length;
+        })
+    writes b b₁ b₂ b₃ b₄ one two three four =
         let front = goes-on (p .first ∷ []) middle b b₁ b₂ 1 one two refl in
         let here : p .place ≡ length (p .first ∷ middle) = omega (arith, middle-length) in
         let plain = goes-on (p .first ∷ middle) (bytes (p .count) (p .truncated .0)) b b₂ b₃ (p .place) front three here in
-        goes-on (plainOf d p) (streamBy schedule nonce (cipherOf d p)) b b₃ b₄ (p .place + p .count) plain (rw (← cipher-is) four) (sym plain-length)
+        let all = goes-on (plainOf d p) (streamBy schedule nonce (cipherOf d p)) b b₃ b₄ (p .place + p .count) plain (rw (← cipher-is) four) (sym plain-length) in
+        record {
+          written = all;
+          number = refl;
+          numberLength = refl;
+          headerLength = sym plain-length;
+          payloadLength = omega (arith, cipher-length);
+          bytesUsed = refl;
+        }

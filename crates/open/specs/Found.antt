@@ -13,6 +13,7 @@ use Rattle.packets.specs.Protection.{Keys, nonce}
 use Rattle.packets.specs.Packet.{Opened, opened, same, tagLength, maskOf}
 use Rattle.packets.specs.Parts.{Unmasked, plainIn, cipherIn, tagIn}
 use Rattle.packets.specs.AesGcm.{aesGcm}
+use Rattle.open.specs.declared.Opened as Code
 use Rattle.open.specs.declared.Bare.{Bare}
 use Rattle.open.specs.declared.Packet.{Packet}
 use Rattle.open.specs.declared.Finding.{Finding}
@@ -72,6 +73,11 @@ Finds k expected d room (Finding.Found p) = Found k expected d room p
 abbrev pub Matches : (schedule nonce d : List ℕ) → Packet → Bool → Type 0
 Matches schedule nonce d p r = r ≡ same (tagOf d p) (tagBy schedule (hashKey schedule) nonce (plainOf d p) (cipherOf d p))
 
--- under a key's schedule: plain header and payload at a buffer's start
-abbrev pub Writes : (schedule nonce d : List ℕ) → Packet → (before then : List ℕ) → Type 0
-Writes schedule nonce d p before then = then ≡ begun (plainOf d p ++ streamBy schedule nonce (cipherOf d p)) before
+-- under a key's schedule: plain header and payload at a buffer's start, and their lengths
+pub record Writes (schedule nonce d : List ℕ) (p : Packet) (before then : List ℕ) (r : Code.Opened) : Type 0 where
+  pub written : then ≡ begun (plainOf d p ++ streamBy schedule nonce (cipherOf d p)) before
+  pub number : r .number ≡ p .number
+  pub numberLength : r .«number_length» ≡ p .count
+  pub headerLength : r .«header_length» ≡ length (plainOf d p)
+  pub payloadLength : r .«payload_length» ≡ length (cipherOf d p)
+  pub bytesUsed : r .used ≡ p .place + p .length

@@ -36,7 +36,7 @@ pub enum Opening {
 }
 
 // Without the mask: the first byte, and the short number with the count of its bytes.
-pub struct Bare {
+struct Bare {
     pub first: u8,
     pub count: usize,
     pub truncated: TruncatedPn,
@@ -44,7 +44,7 @@ pub struct Bare {
 
 // A packet whose tag is still to be judged: without the mask, its first byte, its number as it stands there in `count` bytes and
 // the full one; where it stands, and how many bytes the packet has from there on.
-pub struct Packet {
+struct Packet {
     pub first: u8,
     pub count: usize,
     pub truncated: TruncatedPn,
@@ -54,7 +54,7 @@ pub struct Packet {
 }
 
 // What was found in a datagram, before its tag is judged.
-pub enum Finding {
+enum Finding {
     Refused(u8),
     Found(Packet),
 }
@@ -153,26 +153,35 @@ fn tag_matches(schedule: &[u8; 176], nonce: &[u8; 12], datagram: &[u8], packet: 
     gcm::tag::same_tag(&datagram[close..end], &tag)
 }
 
-// The plain header at the buffer's start, and the payload behind it.
+// The plain header at the buffer's start, and the payload behind it; what was opened so.
 fn write_opened(
     schedule: &[u8; 176],
     nonce: &[u8; 12],
     datagram: &[u8],
     packet: Packet,
     buffer: &mut [u8],
-)
+) -> Opened
     requires { ⌜ (Within (now datagram) packet) × (packet .place + packet .length ≤ length (now buffer) + 16) ⌝ }
-    ensures { λ _. ⌜ Writes (now (schedule .entry)) (now (nonce .entry)) (now (datagram .entry)) packet (now (buffer .entry)) (now (buffer .exit)) ⌝ }
+    ensures { λ r. ⌜ Writes (now (schedule .entry)) (now (nonce .entry)) (now (datagram .entry)) packet (now (buffer .entry)) (now (buffer .exit)) r ⌝ }
 {
     let place = packet.place;
     let count = packet.count;
     let truncated = packet.truncated;
+    let number = packet.number;
     let start = place + count;
-    let end = place + packet.length - 16;
+    let used = place + packet.length;
+    let end = used - 16;
     octets::put(buffer, 0, packet.first);
     octets::copy(buffer, 1, &datagram[1..place]);
     octets::store(buffer, place, count, truncated.0);
     gcm::counter::crypt(schedule, nonce, &datagram[start..end], buffer, start);
+    Opened {
+        number,
+        number_length: count,
+        header_length: start,
+        payload_length: end - start,
+        used,
+    }
 }
 
 // RFC 9000 appendix A.3: the larger of what was expected and one above the opened number.
@@ -205,13 +214,7 @@ pub fn open(keys: Keys, expected: &mut u64, datagram: &[u8], out: &mut [u8]) -> 
     if !tag_matches(&schedule, &nonce, datagram, packet) {
         return Opening::Refused(refusal::TAG);
     }
-    write_opened(&schedule, &nonce, datagram, packet, out);
+    let opened = write_opened(&schedule, &nonce, datagram, packet, out);
     *expected = expected_after(before, number);
-    Opening::Opened(Opened {
-        number,
-        number_length: packet.count,
-        header_length: packet.place + packet.count,
-        payload_length: packet.length - packet.count - 16,
-        used: packet.place + packet.length,
-    })
+    Opening::Opened(opened)
 }

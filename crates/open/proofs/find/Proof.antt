@@ -58,7 +58,7 @@ returns-5 c =
     let a = c .before .before .before .before .before .before .before .before .before .before .before .args in
     let ours = sym (c .before .before .before .before .before .before .before .before .is-known .ensures) ∙ not-false _ (c .before .before .before .before .before .before .before .if2 .left) in
     let read = sym (ap readingAnswer (c .before .before .before .before .header .given .1)) ∙ c .before .before .before .before .before .before .read-initial .ensures in
-    open-reserved aesGcm (keysOf (a .keys)) (a .expected) (a .datagram .now) (a .room) (omega arith) ours read (omega arith) (c .before .unmask .ensures .bare) (c .if4 .taken)
+    open-reserved aesGcm (keysOf (a .keys)) (a .expected) (a .datagram .now) (a .room) (omega arith) ours read (omega arith) (c .before .unmask .ensures .bare) (λ z. omega arith)
 
 recover-requires : tie.Need-recover-requires
 recover-requires c κs = search needs

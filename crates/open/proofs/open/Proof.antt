@@ -56,38 +56,14 @@ expected-after-requires c κs =
     let f = subst (Finds (keysOf (a .keys)) (a .expected .now) (a .datagram .now) (length (a .out .now))) (c .before .before .before .before .before .before .before .before .before .before .before .before .before .before .before .before .before .before .packet .given .1) (c .before .before .before .before .before .before .before .before .before .before .before .before .before .before .before .before .before .before .before .before .find .ensures) in
     f .small
 
-add-t15 : tie.Need-add-t15
-add-t15 c =
-    let a = c .before .before .before .before .before .before .before .before .before .before .before .before .before .before .before .before .before .before .before .before .before .before .before .before .before .before .args in
-    let f = subst (Finds (keysOf (a .keys)) (a .expected .now) (a .datagram .now) (length (a .out .now))) (c .before .before .before .before .before .before .before .before .before .before .before .before .before .before .before .before .before .before .before .before .packet .given .1) (c .before .before .before .before .before .before .before .before .before .before .before .before .before .before .before .before .before .before .before .before .before .before .find .ensures) in
-    omega arith
-
-sub-t31 : tie.Need-sub-t31
-sub-t31 c =
-    let a = c .before .before .before .before .before .before .before .before .before .before .before .before .before .before .before .before .before .before .before .before .before .before .before .before .before .before .before .args in
-    let f = subst (Finds (keysOf (a .keys)) (a .expected .now) (a .datagram .now) (length (a .out .now))) (c .before .before .before .before .before .before .before .before .before .before .before .before .before .before .before .before .before .before .before .before .before .packet .given .1) (c .before .before .before .before .before .before .before .before .before .before .before .before .before .before .before .before .before .before .before .before .before .before .before .find .ensures) in
-    omega arith
-
-sub-t32 : tie.Need-sub-t32
-sub-t32 c =
-    let a = c .before .before .before .before .before .before .before .before .before .before .before .before .before .before .before .before .before .before .before .before .before .before .before .before .before .before .before .args in
-    let f = subst (Finds (keysOf (a .keys)) (a .expected .now) (a .datagram .now) (length (a .out .now))) (c .before .before .before .before .before .before .before .before .before .before .before .before .before .before .before .before .before .before .before .before .before .packet .given .1) (c .before .before .before .before .before .before .before .before .before .before .before .before .before .before .before .before .before .before .before .before .before .before .before .find .ensures) in
-    omega arith
-
-add-t33 : tie.Need-add-t33
-add-t33 c =
-    let a = c .before .before .before .before .before .before .before .before .before .before .before .before .before .before .before .before .before .before .before .before .before .before .before .before .before .before .before .before .args in
-    let f = subst (Finds (keysOf (a .keys)) (a .expected .now) (a .datagram .now) (length (a .out .now))) (c .before .before .before .before .before .before .before .before .before .before .before .before .before .before .before .before .before .before .before .before .before .before .packet .given .1) (c .before .before .before .before .before .before .before .before .before .before .before .before .before .before .before .before .before .before .before .before .before .before .before .before .find .ensures) in
-    omega arith
-
 same-length : tie.Need-same-length
 same-length c = search needs
 
 returns-3 : tie.Need-returns-3
 returns-3 c =
-    let a = c .before .before .before .before .before .before .before .before .before .before .before .before .before .before .before .before .before .before .before .before .before .before .before .before .before .before .before .before .args in
-    let f = subst (Finds (keysOf (a .keys)) (a .expected .now) (a .datagram .now) (length (a .out .now))) (c .before .before .before .before .before .before .before .before .before .before .before .before .before .before .before .before .before .before .before .before .before .before .packet .given .1) (c .before .before .before .before .before .before .before .before .before .before .before .before .before .before .before .before .before .before .before .before .before .before .before .before .find .ensures) in
-    opens (keysOf (a .keys)) (a .datagram .now) (a .expected .now) (a .out .now) _ f _ _ (c .before .before .before .before .before .before .before .before .before .before .before .before .before .before .before .before .expand-key .ensures) (c .before .before .before .before .before .before .before .before .before .before .before .before .before .before .nonce-of .ensures) _ (c .before .before .before .before .before .before .before .before .before .before .before .tag-matches .ensures) (not-false _ (c .before .before .before .before .before .before .before .before .before .before .if1 .left)) _ (c .before .before .before .expected-after .ensures) _ (c .before .before .before .before .before .before .write-opened .ensures)
+    let a = c .before .before .before .before .before .before .before .before .before .before .before .before .before .before .before .before .before .before .before .before .before .before .before .before .before .args in
+    let f = subst (Finds (keysOf (a .keys)) (a .expected .now) (a .datagram .now) (length (a .out .now))) (c .before .before .before .before .before .before .before .before .before .before .before .before .before .before .before .before .before .before .before .packet .given .1) (c .before .before .before .before .before .before .before .before .before .before .before .before .before .before .before .before .before .before .before .before .before .find .ensures) in
+    opens (keysOf (a .keys)) (a .datagram .now) (a .expected .now) (a .out .now) _ f _ _ (c .before .before .before .before .before .before .before .before .before .before .before .before .before .expand-key .ensures) (c .before .before .before .before .before .before .before .before .before .before .before .nonce-of .ensures) _ (c .before .before .before .before .before .before .before .before .tag-matches .ensures) (not-false _ (c .before .before .before .before .before .before .before .if1 .left)) _ (c .expected-after .ensures) _ _ (c .before .before .before .write-opened .ensures)
 
 pub open-spec : {M : Type 1} → statement M
 open-spec =
@@ -103,9 +79,5 @@ open-spec =
     returns-2
     write-opened-requires
     expected-after-requires
-    add-t15
-    sub-t31
-    sub-t32
-    add-t33
     same-length
     returns-3)

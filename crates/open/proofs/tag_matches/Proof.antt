@@ -3,11 +3,10 @@ use Prim.Native.Nat.{_-_}
 use mathlib.Core.Path.{sym}
 use borrow.Author.Needs.{needs}
 use native.Mathlib.Omega.{arith}
-use lib.ListN.{replicate}
+use lib.ListN.{replicate, length-take, length-drop}
 use lib.Seq.{length-take-le}
 use Rattle.gcm.specs.Table.{num}
-use Rattle.open.proofs.Masking.{taken-few}
-use Rattle.open.proofs.Pieces.{middle-length, cipher-taken, matches}
+use Rattle.open.proofs.Pieces.{matches}
 use Rattle.open.proofs.tag_matches.Statement.{statement}
 use Rattle.open.proofs.tag_matches.Tie as tie
 
@@ -58,14 +57,8 @@ part-make-tag-end-2 c = search needs
 
 make-tag-requires : tie.Need-make-tag-requires
 make-tag-requires c κs =
-    let a = c .before .before .before .before .before .before .before .before .before .before .before .args in
-    let d = a .datagram .now in
-    let p = a .packet in
-    let w = c .before .before .before .before .before .before .before .before .before .before .before .pre in
-    let middle = middle-length d p w in
-    let short = taken-few 4 (p .count) (c .before .before .before .before .before .before .before .store .last .0) (omega (arith, c .before .before .before .before .before .before .before .store .kept .0)) in
-    let text = cipher-taken d p w in
-    (omega arith, omega arith)
+    let kept = c .before .before .before .before .before .before .before .store .kept .0 in
+    (simp (length-take, length-drop) (omega arith), simp (length-take, length-drop) (omega arith))
 
 sub-same-tag : tie.Need-sub-same-tag
 sub-same-tag c = search needs

@@ -1,15 +1,15 @@
 -- First byte, middle, number and payload, each behind the other.
 use Prim.Native.Nat.{_-_}
 use borrow.Author.Needs.{needs}
-use Rattle.open.proofs.Pieces.{written}
+use Rattle.open.proofs.Pieces.{writes}
 use Rattle.open.proofs.write_opened.Statement.{statement}
 use Rattle.open.proofs.write_opened.Tie as tie
 
 add-start : tie.Need-add-start
 add-start c = search needs
 
-add-end : tie.Need-add-end
-add-end c = search needs
+add-used : tie.Need-add-used
+add-used c = search needs
 
 sub-end : tie.Need-sub-end
 sub-end c = search needs
@@ -44,20 +44,23 @@ part-crypt-end c = search needs
 crypt-requires : tie.Need-crypt-requires
 crypt-requires c κs = search needs
 
+sub-t19 : tie.Need-sub-t19
+sub-t19 c = search needs
+
 same-length : tie.Need-same-length
 same-length c = search needs
 
 returns : tie.Need-returns
 returns c =
-    let a = c .before .before .before .before .before .before .before .before .before .before .before .before .before .before .before .before .before .before .before .before .before .before .args in
-    written (a .datagram .now) (a .packet) (c .before .before .before .before .before .before .before .before .before .before .before .before .before .before .before .before .before .before .before .before .before .before .pre .0) (a .schedule .now) (a .nonce .now) (a .buffer .now) _ _ _ _ (c .before .before .before .before .before .before .before .before .before .before .before .before .before .before .before .before .put .ensures) (c .before .before .before .before .before .before .before .before .before .before .before .copy .ensures) (c .before .before .before .before .before .before .before .store .ensures) (c .before .before .crypt .ensures)
+    let a = c .before .before .before .before .before .before .before .before .before .before .before .before .before .before .before .before .before .before .before .before .before .before .before .args in
+    writes (a .datagram .now) (a .packet) (c .before .before .before .before .before .before .before .before .before .before .before .before .before .before .before .before .before .before .before .before .before .before .before .pre .0) (a .schedule .now) (a .nonce .now) (a .buffer .now) _ _ _ _ (c .before .before .before .before .before .before .before .before .before .before .before .before .before .before .before .before .put .ensures) (c .before .before .before .before .before .before .before .before .before .before .before .copy .ensures) (c .before .before .before .before .before .before .before .store .ensures) (c .before .before .crypt .ensures)
 
 pub write-opened-spec : {M : Type 1} → statement M
 write-opened-spec =
     tie.close
     (tie.spec
     add-start
-    add-end
+    add-used
     sub-end
     put-requires
     sub-copy
@@ -69,5 +72,6 @@ write-opened-spec =
     part-crypt-start
     part-crypt-end
     crypt-requires
+    sub-t19
     same-length
     returns)
