@@ -32,32 +32,51 @@ enum-known-why c = search needs
 
 returns-3 : tie.Need-returns-3
 returns-3 c =
-    open-header aesGcm _ _ _ _ (omega arith) (sym (c .before .before .before .before .before .is-known .ensures) ∙ not-false _ (c .before .before .before .before .if2 .left)) (sym (ap readingAnswer (c .before .why .given .1)) ∙ c .before .before .before .read-initial .ensures)
+    let h = c .before .before .before in
+    let ours = sym (h .before .before .is-known .ensures) ∙ not-false _ (h .before .if2 .left) in
+    open-header aesGcm _ _ _ _ (omega arith) ours (sym (ap readingAnswer (c .before .why .given .1)) ∙ h .read-initial .ensures)
 
 enum-known-header : tie.Need-enum-known-header
 enum-known-header c = search needs
 
 add-if3 : tie.Need-add-if3
-add-if3 c = let there = header-there (λ v. eqb v (c .before .before .before .before .before .before .before .before .args .keys .version)) (c .before .before .before .before .before .before .before .before .args .datagram .now) (sym (ap readingAnswer (c .before .header .given .1)) ∙ c .before .before .before .read-initial .ensures) in omega arith
+add-if3 c =
+    let h = c .before in
+    let a = h .before .before .before .before .before .before .before .args in
+    let read = sym (ap readingAnswer (h .header .given .1)) ∙ h .before .before .read-initial .ensures in
+    let there = header-there (λ v. eqb v (a .keys .version)) (a .datagram .now) read in
+    omega arith
 
 sub-if3 : tie.Need-sub-if3
-sub-if3 c = let there = header-there (λ v. eqb v (c .before .before .before .before .before .before .before .before .args .keys .version)) (c .before .before .before .before .before .before .before .before .args .datagram .now) (sym (ap readingAnswer (c .before .header .given .1)) ∙ c .before .before .before .read-initial .ensures) in omega arith
+sub-if3 c =
+    let h = c .before in
+    let a = h .before .before .before .before .before .before .before .args in
+    let read = sym (ap readingAnswer (h .header .given .1)) ∙ h .before .before .read-initial .ensures in
+    let there = header-there (λ v. eqb v (a .keys .version)) (a .datagram .now) read in
+    omega arith
 
 returns-4 : tie.Need-returns-4
 returns-4 c =
-    let a = c .before .before .before .before .before .before .before .before .before .args in
-    let ours = sym (c .before .before .before .before .before .before .is-known .ensures) ∙ not-false _ (c .before .before .before .before .before .if2 .left) in
-    let read = sym (ap readingAnswer (c .before .before .header .given .1)) ∙ c .before .before .before .before .read-initial .ensures in
+    let h = c .before .before in
+    let a = h .before .before .before .before .before .before .before .args in
+    let read = sym (ap readingAnswer (h .header .given .1)) ∙ h .before .before .read-initial .ensures in
+    let ours = sym (h .before .before .before .before .is-known .ensures) ∙ not-false _ (h .before .before .before .if2 .left) in
     open-room aesGcm (keysOf (a .keys)) (a .expected) (a .datagram .now) (a .room) (omega arith) ours read (omega arith)
 
 unmask-requires : tie.Need-unmask-requires
-unmask-requires c κs = let there = header-there (λ v. eqb v (c .before .before .before .before .before .before .before .before .before .args .keys .version)) (c .before .before .before .before .before .before .before .before .before .args .datagram .now) (sym (ap readingAnswer (c .before .before .header .given .1)) ∙ c .before .before .before .before .read-initial .ensures) in omega arith
+unmask-requires c κs =
+    let h = c .before .before in
+    let a = h .before .before .before .before .before .before .before .args in
+    let read = sym (ap readingAnswer (h .header .given .1)) ∙ h .before .before .read-initial .ensures in
+    let there = header-there (λ v. eqb v (a .keys .version)) (a .datagram .now) read in
+    omega arith
 
 returns-5 : tie.Need-returns-5
 returns-5 c =
-    let a = c .before .before .before .before .before .before .before .before .before .before .before .args in
-    let ours = sym (c .before .before .before .before .before .before .before .before .is-known .ensures) ∙ not-false _ (c .before .before .before .before .before .before .before .if2 .left) in
-    let read = sym (ap readingAnswer (c .before .before .before .before .header .given .1)) ∙ c .before .before .before .before .before .before .read-initial .ensures in
+    let h = c .before .before .before .before in
+    let a = h .before .before .before .before .before .before .before .args in
+    let read = sym (ap readingAnswer (h .header .given .1)) ∙ h .before .before .read-initial .ensures in
+    let ours = sym (h .before .before .before .before .is-known .ensures) ∙ not-false _ (h .before .before .before .if2 .left) in
     open-reserved aesGcm (keysOf (a .keys)) (a .expected) (a .datagram .now) (a .room) (omega arith) ours read (omega arith) (c .before .unmask .ensures .bare) (λ z. omega arith)
 
 recover-requires : tie.Need-recover-requires
@@ -71,17 +90,19 @@ enum-known-number c = search needs
 
 returns-6 : tie.Need-returns-6
 returns-6 c =
-    let a = c .before .before .before .before .before .before .before .before .before .before .before .before .before .before .before .before .args in
-    let ours = sym (c .before .before .before .before .before .before .before .before .before .before .before .before .before .is-known .ensures) ∙ not-false _ (c .before .before .before .before .before .before .before .before .before .before .before .before .if2 .left) in
-    let read = sym (ap readingAnswer (c .before .before .before .before .before .before .before .before .before .header .given .1)) ∙ c .before .before .before .before .before .before .before .before .before .before .before .read-initial .ensures in
+    let h = c .before .before .before .before .before .before .before .before .before in
+    let a = h .before .before .before .before .before .before .before .args in
+    let read = sym (ap readingAnswer (h .header .given .1)) ∙ h .before .before .read-initial .ensures in
+    let ours = sym (h .before .before .before .before .is-known .ensures) ∙ not-false _ (h .before .before .before .if2 .left) in
     let recovery = sym (ap recoveredAnswer (c .before .why2 .given .1)) ∙ c .before .before .before .recover .ensures .answer in
     range-refused (keysOf (a .keys)) (a .expected) (a .datagram .now) (a .room) (omega arith) ours read (omega arith) (c .before .before .before .before .before .before .unmask .ensures) (omega arith) recovery
 
 returns-7 : tie.Need-returns-7
 returns-7 c =
-    let a = c .before .before .before .before .before .before .before .before .before .before .before .before .before .before .before .before .args in
-    let ours = sym (c .before .before .before .before .before .before .before .before .before .before .before .before .before .is-known .ensures) ∙ not-false _ (c .before .before .before .before .before .before .before .before .before .before .before .before .if2 .left) in
-    let read = sym (ap readingAnswer (c .before .before .before .before .before .before .before .before .before .header .given .1)) ∙ c .before .before .before .before .before .before .before .before .before .before .before .read-initial .ensures in
+    let h = c .before .before .before .before .before .before .before .before .before in
+    let a = h .before .before .before .before .before .before .before .args in
+    let read = sym (ap readingAnswer (h .header .given .1)) ∙ h .before .before .read-initial .ensures in
+    let ours = sym (h .before .before .before .before .is-known .ensures) ∙ not-false _ (h .before .before .before .if2 .left) in
     let recovery = sym (ap recoveredAnswer (c .before .number .given .1)) ∙ c .before .before .before .recover .ensures .answer in
     packet-found (keysOf (a .keys)) (a .expected) (a .datagram .now) (a .room) (omega arith) ours read (omega arith) (c .before .before .before .before .before .before .unmask .ensures) (omega arith) _ recovery
 

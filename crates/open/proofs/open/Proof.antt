@@ -19,9 +19,10 @@ enum-known-why c = search needs
 
 returns : tie.Need-returns
 returns c =
-    let a = c .before .before .before .before .before .before .before .args in
-    let is = subst (Finds (keysOf (a .keys)) (a .expected .now) (a .datagram .now) (length (a .out .now))) (c .before .why .given .1) (c .before .before .before .find .ensures) in
-    refuses (keysOf (a .keys)) (a .datagram .now) (a .expected .now) (a .out .now) is
+    let f = c .before .before .before in
+    let a = f .before .before .before .before .args in
+    refuses (keysOf (a .keys)) (a .datagram .now) (a .expected .now) (a .out .now)
+    (subst (Finds (keysOf (a .keys)) (a .expected .now) (a .datagram .now) (length (a .out .now))) (c .before .why .given .1) (f .find .ensures))
 
 enum-known-packet : tie.Need-enum-known-packet
 enum-known-packet c = search needs
@@ -34,26 +35,32 @@ nonce-of-requires c κs = search needs
 
 tag-matches-requires : tie.Need-tag-matches-requires
 tag-matches-requires c κs =
-    let a = c .before .before .before .before .before .before .before .before .before .before .before .before .before .before .before .before .args in
-    let f = subst (Finds (keysOf (a .keys)) (a .expected .now) (a .datagram .now) (length (a .out .now))) (c .before .before .before .before .before .before .before .before .before .before .packet .given .1) (c .before .before .before .before .before .before .before .before .before .before .before .before .find .ensures) in
+    let p = c .before .before .before .before .before .before .before .before .before .before in
+    let a = p .before .before .before .before .before .before .args in
+    let f = subst (Finds (keysOf (a .keys)) (a .expected .now) (a .datagram .now) (length (a .out .now))) (p .packet .given .1) (p .before .before .find .ensures) in
     f .within
 
 returns-2 : tie.Need-returns-2
 returns-2 c =
-    let a = c .before .before .before .before .before .before .before .before .before .before .before .before .before .before .before .before .before .before .args in
-    let f = subst (Finds (keysOf (a .keys)) (a .expected .now) (a .datagram .now) (length (a .out .now))) (c .before .before .before .before .before .before .before .before .before .before .before .before .packet .given .1) (c .before .before .before .before .before .before .before .before .before .before .before .before .before .before .find .ensures) in
-    refuses (keysOf (a .keys)) (a .datagram .now) (a .expected .now) (a .out .now) (tag-refused (keysOf (a .keys)) (a .datagram .now) (a .expected .now) (a .out .now) _ f _ _ (c .before .before .before .before .before .before .expand-key .ensures) (c .before .before .before .before .nonce-of .ensures) _ (c .before .tag-matches .ensures) (not-true _ (c .if1 .taken)))
+    let p = c .before .before .before .before .before .before .before .before .before .before .before .before in
+    let a = p .before .before .before .before .before .before .args in
+    let f = subst (Finds (keysOf (a .keys)) (a .expected .now) (a .datagram .now) (length (a .out .now))) (p .packet .given .1) (p .before .before .find .ensures) in
+    let t = c .before in
+    refuses (keysOf (a .keys)) (a .datagram .now) (a .expected .now) (a .out .now)
+    (tag-refused (keysOf (a .keys)) (a .datagram .now) (a .expected .now) (a .out .now) _ f _ _ (t .before .before .before .before .before .expand-key .ensures) (t .before .before .before .nonce-of .ensures) _ (t .tag-matches .ensures) (not-true _ (c .if1 .taken)))
 
 write-opened-requires : tie.Need-write-opened-requires
 write-opened-requires c κs =
-    let a = c .before .before .before .before .before .before .before .before .before .before .before .before .before .before .before .before .before .before .before .before .before .args in
-    let f = subst (Finds (keysOf (a .keys)) (a .expected .now) (a .datagram .now) (length (a .out .now))) (c .before .before .before .before .before .before .before .before .before .before .before .before .before .before .before .packet .given .1) (c .before .before .before .before .before .before .before .before .before .before .before .before .before .before .before .before .before .find .ensures) in
+    let p = c .before .before .before .before .before .before .before .before .before .before .before .before .before .before .before in
+    let a = p .before .before .before .before .before .before .args in
+    let f = subst (Finds (keysOf (a .keys)) (a .expected .now) (a .datagram .now) (length (a .out .now))) (p .packet .given .1) (p .before .before .find .ensures) in
     (f .within, omega arith)
 
 expected-after-requires : tie.Need-expected-after-requires
 expected-after-requires c κs =
-    let a = c .before .before .before .before .before .before .before .before .before .before .before .before .before .before .before .before .before .before .before .before .before .before .before .before .args in
-    let f = subst (Finds (keysOf (a .keys)) (a .expected .now) (a .datagram .now) (length (a .out .now))) (c .before .before .before .before .before .before .before .before .before .before .before .before .before .before .before .before .before .before .packet .given .1) (c .before .before .before .before .before .before .before .before .before .before .before .before .before .before .before .before .before .before .before .before .find .ensures) in
+    let p = c .before .before .before .before .before .before .before .before .before .before .before .before .before .before .before .before .before .before in
+    let a = p .before .before .before .before .before .before .args in
+    let f = subst (Finds (keysOf (a .keys)) (a .expected .now) (a .datagram .now) (length (a .out .now))) (p .packet .given .1) (p .before .before .find .ensures) in
     f .small
 
 same-length : tie.Need-same-length
@@ -61,9 +68,12 @@ same-length c = search needs
 
 returns-3 : tie.Need-returns-3
 returns-3 c =
-    let a = c .before .before .before .before .before .before .before .before .before .before .before .before .before .before .before .before .before .before .before .before .before .before .before .before .before .args in
-    let f = subst (Finds (keysOf (a .keys)) (a .expected .now) (a .datagram .now) (length (a .out .now))) (c .before .before .before .before .before .before .before .before .before .before .before .before .before .before .before .before .before .before .before .packet .given .1) (c .before .before .before .before .before .before .before .before .before .before .before .before .before .before .before .before .before .before .before .before .before .find .ensures) in
-    opens (keysOf (a .keys)) (a .datagram .now) (a .expected .now) (a .out .now) _ f _ _ (c .before .before .before .before .before .before .before .before .before .before .before .before .before .expand-key .ensures) (c .before .before .before .before .before .before .before .before .before .before .before .nonce-of .ensures) _ (c .before .before .before .before .before .before .before .before .tag-matches .ensures) (not-false _ (c .before .before .before .before .before .before .before .if1 .left)) _ (c .expected-after .ensures) _ _ (c .before .before .before .write-opened .ensures)
+    let p = c .before .before .before .before .before .before .before .before .before .before .before .before .before .before .before .before .before .before .before in
+    let a = p .before .before .before .before .before .before .args in
+    let f = subst (Finds (keysOf (a .keys)) (a .expected .now) (a .datagram .now) (length (a .out .now))) (p .packet .given .1) (p .before .before .find .ensures) in
+    let t = c .before .before .before .before .before .before .before .before in
+    opens (keysOf (a .keys)) (a .datagram .now) (a .expected .now) (a .out .now) _ f _ _ (t .before .before .before .before .before .expand-key .ensures) (t .before .before .before .nonce-of .ensures) _ (t .tag-matches .ensures) (not-false _ (c .before .before .before .before .before .before .before .if1 .left)) _
+    (c .expected-after .ensures) _ _ (c .before .before .before .write-opened .ensures)
 
 pub open-spec : {M : Type 1} → statement M
 open-spec =

@@ -77,8 +77,11 @@ same-tag-requires c κs = search needs
 
 returns : tie.Need-returns
 returns c =
-    let a = c .before .before .before .before .before .before .before .before .before .before .before .before .before .before .before .args in
-    matches (a .datagram .now) (a .packet) (c .before .before .before .before .before .before .before .before .before .before .before .before .before .before .before .pre) (a .schedule .now) (a .nonce .now) (num (c .before .before .before .before .before .before .before .before .hash-key .result)) (replicate 4 0) (c .before .before .before .before .before .before .before .before .before .before .before .store .last .0) (c .before .before .before .make-tag .result) _ (c .before .before .before .before .before .before .before .before .hash-key .ensures) (c .before .before .before .before .before .before .before .before .before .before .before .store .ensures) (c .before .before .before .make-tag .ensures) (c .same-tag .ensures)
+    let s = c .before .before .before .before .before .before .before .before .before .before .before in
+    let a = s .before .before .before .before .args in
+    let t = c .before .before .before in
+    matches (a .datagram .now) (a .packet) (s .before .before .before .before .pre) (a .schedule .now) (a .nonce .now) (num (t .before .before .before .before .before .hash-key .result)) (replicate 4 0) (s .store .last .0) (t .make-tag .result) _
+    (t .before .before .before .before .before .hash-key .ensures) (s .store .ensures) (t .make-tag .ensures) (c .same-tag .ensures)
 
 pub tag-matches-spec : {M : Type 1} → statement M
 tag-matches-spec =

@@ -62,18 +62,19 @@ slice-aggregate-read-short c = sym (length-take-le _ _ (omega (arith, c .before 
 
 read-short-requires : tie.Need-read-short-requires
 read-short-requires c κs =
-    let mask = c .before .before .before .before .before .before .before .before .mask-of .result in
-    taken-few 4 (bitXor (getD (c .before .before .before .before .before .before .before .before .before .before .before .before .args .datagram .now) 0 0) (getD mask 0 0 % 16) % 4 + 1) (c .before .before .copy-masked .last .0) (omega (arith, c .before .before .copy-masked .kept .0))
+    let m = c .before .before .before .before .before .before .before .before in
+    taken-few 4 (bitXor (getD (m .before .before .before .before .args .datagram .now) 0 0) (getD (m .mask-of .result) 0 0 % 16) % 4 + 1) (c .before .before .copy-masked .last .0) (omega (arith, c .before .before .copy-masked .kept .0))
 
 returns : tie.Need-returns
 unfolding onFirst
 returns c =
-    let a = c .before .before .before .before .before .before .before .before .before .before .before .before .before .args in
+    let m = c .before .before .before .before .before .before .before .before .before in
+    let a = m .before .before .before .before .args in
     let d = a .datagram .now in
-    let mask = c .before .before .before .before .before .before .before .before .before .mask-of .result in
+    let mask = m .mask-of .result in
     let count : ℕ = bitXor (getD d 0 0) (getD mask 0 0 % 16) % 4 + 1 in
-    let short = ap (take count) (c .before .before .before .copy-masked .ensures) ∙ short-taken d mask (replicate 4 0) (a .place) (a .place + count - a .place) count (search needs) (omega arith) (omega arith) in
-    unmasks (keysOf (a .keys)) d mask _ (a .place) _ (omega arith) (c .before .before .before .before .before .before .before .before .before .mask-of .ensures) refl refl short (c .read-short .ensures)
+    let short = short-taken d mask (replicate 4 0) (a .place) (a .place + count - a .place) count (search needs) (omega arith) (omega arith) in
+    unmasks (keysOf (a .keys)) d mask _ (a .place) _ (omega arith) (m .mask-of .ensures) refl refl (ap (take count) (c .before .before .before .copy-masked .ensures) ∙ short) (c .read-short .ensures)
 
 pub unmask-spec : {M : Type 1} → statement M
 unmask-spec =

@@ -52,8 +52,11 @@ same-length c = search needs
 
 returns : tie.Need-returns
 returns c =
-    let a = c .before .before .before .before .before .before .before .before .before .before .before .before .before .before .before .before .before .before .before .before .before .before .before .args in
-    writes (a .datagram .now) (a .packet) (c .before .before .before .before .before .before .before .before .before .before .before .before .before .before .before .before .before .before .before .before .before .before .before .pre .0) (a .schedule .now) (a .nonce .now) (a .buffer .now) _ _ _ _ (c .before .before .before .before .before .before .before .before .before .before .before .before .before .before .before .before .put .ensures) (c .before .before .before .before .before .before .before .before .before .before .before .copy .ensures) (c .before .before .before .before .before .before .before .store .ensures) (c .before .before .crypt .ensures)
+    let s = c .before .before .before .before .before .before .before in
+    let p = c .before .before .before .before .before .before .before .before .before .before .before .before .before .before .before .before in
+    let a = p .before .before .before .before .before .before .before .args in
+    writes (a .datagram .now) (a .packet) (p .before .before .before .before .before .before .before .pre .0) (a .schedule .now) (a .nonce .now) (a .buffer .now) _ _ _ _
+    (p .put .ensures) (s .before .before .before .before .copy .ensures) (s .store .ensures) (c .before .before .crypt .ensures)
 
 pub write-opened-spec : {M : Type 1} → statement M
 write-opened-spec =
