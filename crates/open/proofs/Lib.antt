@@ -1,0 +1,6 @@
+pub mod Spelling
+pub mod Masking
+pub mod Judging
+pub mod Pieces
+pub mod Answers
+pub mod OneAnswer

@@ -1,0 +1,90 @@
+-- The tag over a packet's pieces, and the pieces written one behind the other.
+use Prim.Native.Nat.{ℕ, _+_, _-_}
+use mathlib.Core.Path.{_≡_, refl, sym, ap, _∙_}
+use mathlib.Core.Bool.{Bool, _&&_}
+use mathlib.Core.List.{List, [], _∷_, _++_}
+use native.Mathlib.Omega.{arith}
+use lib.Dec.{eqb}
+use lib.ListN.{length, take, drop, length-append}
+use lib.Seq.{take-at}
+use Rattle.octets.specs.Octets.{bytes, part, laid}
+use Rattle.octets.proofs.Numbers.{bytes-length}
+use Rattle.octets.proofs.Buffers.{goes-on}
+use Rattle.gcm.specs.Gcm.{streamBy, tagBy, hashKey}
+use Rattle.gcm.specs.Same as Section7
+use Rattle.packets.specs.Packet.{same}
+use Rattle.packets.proofs.Parts.{part-length}
+use Rattle.open.specs.Found.{Within, plainOf, cipherOf, tagOf, Matches, Writes}
+use Rattle.open.specs.declared.Packet.{Packet}
+
+-- both rooms compare bytes alike
+same-same : (xs ys : List ℕ) → Section7.same xs ys ≡ same xs ys
+unfolding Section7.same same
+same-same [] [] = refl
+same-same [] (y ∷ ys) = refl
+same-same (x ∷ xs) [] = refl
+same-same (x ∷ xs) (y ∷ ys) = ap (λ (b : Bool). eqb x y && b) (same-same xs ys)
+
+-- a short number put at the start of a small buffer, and taken from there
+number-taken : (buffer : List ℕ) (n t : ℕ) → take n (laid buffer 0 (bytes n t)) ≡ bytes n t
+number-taken buffer n t = take-at (bytes n t) (drop (0 + length (bytes n t)) buffer) n (bytes-length n t)
+
+module _ (d : List ℕ) (p : Packet) (w : Within d p) where
+  abbrev middle : List ℕ
+  middle = part d 1 (p .place - 1)
+
+  middle-length : length middle ≡ p .place - 1
+  middle-length = part-length d 1 (p .place - 1) (omega arith)
+
+  plain-length : length (plainOf d p) ≡ p .place + p .count
+  plain-length =
+      omega (arith, length-append middle (bytes (p .count) (p .truncated .0)), middle-length, bytes-length (p .count) (p .truncated .0))
+
+  cipher-length : length (cipherOf d p) ≡ p .length - p .count - 16
+  cipher-length = part-length d (p .place + p .count) (p .length - p .count - 16) (omega arith)
+
+  cipher-is : part d (p .place + p .count) (p .place + p .length - 16 - (p .place + p .count)) ≡ cipherOf d p
+  cipher-is =
+      let counted : p .place + p .length - 16 - (p .place + p .count) ≡ p .length - p .count - 16 = omega arith in
+      rw counted
+
+  tag-is : part d (p .place + p .length - 16) (p .place + p .length - (p .place + p .length - 16)) ≡ tagOf d p
+  tag-is =
+      let counted : p .place + p .length - (p .place + p .length - 16) ≡ 16 = omega arith in
+      rw counted
+
+  module _ (schedule nonce : List ℕ) where
+    pub matches : (key : ℕ) (buffer short right : List ℕ) (r : Bool) → key ≡ hashKey schedule
+        → short ≡ laid buffer 0 (bytes (p .count) (p .truncated .0))
+        → right ≡ tagBy schedule key nonce (p .first ∷ middle ++ take (p .count) short) (part d (p .place + p .count) (p .place + p .length - 16 - (p .place + p .count)))
+        → r ≡ Section7.same (part d (p .place + p .length - 16) (p .place + p .length - (p .place + p .length - 16))) right
+        → Matches schedule nonce d p r
+    matches key buffer short right r its-key its-number its-tag is =
+        is
+        ∙ same-same (part d (p .place + p .length - 16) (p .place + p .length - (p .place + p .length - 16))) right
+        ∙ rw (its-tag, its-key, its-number, number-taken buffer (p .count) (p .truncated .0), cipher-is, tag-is)
+
+    -- first byte, middle, number, payload
+    pub writes : (b b₁ b₂ b₃ b₄ : List ℕ) → b₁ ≡ laid b 0 (p .first ∷ []) → b₂ ≡ laid b₁ 1 middle
+        → b₃ ≡ laid b₂ (p .place) (bytes (p .count) (p .truncated .0))
+        → b₄ ≡ laid b₃ (p .place + p .count) (streamBy schedule nonce (part d (p .place + p .count) (p .place + p .length - 16 - (p .place + p .count))))
+        → Writes schedule nonce d p b b₄ (record {
+          number = p .number;
+          «number_length» = p .count;
+          «header_length» = p .place + p .count;
+          «payload_length» = p .place + p .length - 16 - (p .place + p .count);
+          used = p .place + p .length;
+        })
+    writes b b₁ b₂ b₃ b₄ one two three four =
+        let front = goes-on (p .first ∷ []) middle b b₁ b₂ 1 one two refl in
+        let here : p .place ≡ length (p .first ∷ middle) = omega (arith, middle-length) in
+        let plain = goes-on (p .first ∷ middle) (bytes (p .count) (p .truncated .0)) b b₂ b₃ (p .place) front three here in
+        let all = goes-on (plainOf d p) (streamBy schedule nonce (cipherOf d p)) b b₃ b₄ (p .place + p .count) plain (rw (← cipher-is) four) (sym plain-length) in
+        record {
+          written = all;
+          number = refl;
+          numberLength = refl;
+          headerLength = sym plain-length;
+          payloadLength = omega (arith, cipher-length);
+          bytesUsed = refl;
+        }
