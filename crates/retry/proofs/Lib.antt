@@ -1,0 +1,5 @@
+pub mod Packets
+pub mod Refusals
+pub mod Promises
+pub mod WrittenBack
+pub mod OneAnswer

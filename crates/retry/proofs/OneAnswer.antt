@@ -1,0 +1,59 @@
+-- Each contract fixes its answer, and what is written: any two that it permits are equal.
+use Prim.Native.Nat.{ℕ}
+use mathlib.Core.Path.{_≡_, refl, sym, _∙_}
+use mathlib.Core.List.{List}
+use Rattle.octets.specs.Outcome.{Outcome, refused, given}
+use Rattle.wire.specs.Header as Section17
+use Rattle.wire.specs.declared.header.Place.{Place}
+use Rattle.wire.proofs.OneAnswer.{once}
+use Rattle.retry.specs.Retry as Fields
+use Rattle.retry.specs.Answers.{writingAnswer, checkingAnswer, WriteRetry, CheckRetry, RetryDestination, RetrySource, RetryToken}
+use Rattle.retry.specs.declared.Writing.{Writing}
+use Rattle.retry.specs.declared.Writing.the-variants as Writing
+use Rattle.retry.specs.declared.Checking.{Checking}
+use Rattle.retry.specs.declared.Checking.the-variants as Checking
+
+-- ---- writing
+writingBack : Outcome ℕ → Writing
+writingBack (refused n) = Writing.Refused n
+writingBack (given n) = Writing.Written n
+
+writing-back : (r : Writing) → writingBack (writingAnswer r) ≡ r
+unfolding writingBack
+writing-back (Writing.Refused n) = refl
+writing-back (Writing.Written n) = refl
+
+pub write-retry-once : {v : ℕ} {original destination source token : List ℕ} {low : ℕ} {before : List ℕ} {r r′ : Writing} {after after′ : List ℕ}
+    → WriteRetry v original destination source token low before r after → WriteRetry v original destination source token low before r′ after′
+    → (r ≡ r′) × (after ≡ after′)
+write-retry-once a b = (once writingAnswer writingBack writing-back (a .answer) (b .answer), a .output ∙ sym (b .output))
+
+-- ---- checking
+placeBack : Section17.Place → Place
+placeBack p = record { at = p .at; len = p .len }
+
+checkingBack : Outcome Fields.RetryFields → Checking
+checkingBack (refused n) = Checking.Refused n
+checkingBack (given f) = Checking.Checked (record {
+  version = f .version;
+  destination = placeBack (f .destination);
+  source = placeBack (f .source);
+  token = placeBack (f .token);
+})
+
+checking-back : (r : Checking) → checkingBack (checkingAnswer r) ≡ r
+unfolding checkingBack placeBack
+checking-back (Checking.Refused n) = refl
+checking-back (Checking.Checked f) = refl
+
+pub check-retry-once : {original d : List ℕ} {r r′ : Checking} → CheckRetry original d r → CheckRetry original d r′ → r ≡ r′
+check-retry-once a b = once checkingAnswer checkingBack checking-back (a .answer) (b .answer)
+
+pub retry-destination-once : {original d r r′ : List ℕ} → RetryDestination original d r → RetryDestination original d r′ → r ≡ r′
+retry-destination-once a b = a .answer ∙ sym (b .answer)
+
+pub retry-source-once : {original d r r′ : List ℕ} → RetrySource original d r → RetrySource original d r′ → r ≡ r′
+retry-source-once a b = a .answer ∙ sym (b .answer)
+
+pub retry-token-once : {original d r r′ : List ℕ} → RetryToken original d r → RetryToken original d r′ → r ≡ r′
+retry-token-once a b = a .answer ∙ sym (b .answer)

@@ -1,0 +1,75 @@
+-- How long a Retry is, how its tag is made, and how it is written, piece by piece.
+use Prim.Native.Nat.{ℕ, _+_, _%_, _≤_}
+use mathlib.Core.Path.{_≡_, sym, ap, _∙_}
+use mathlib.Core.List.{List, [], _∷_}
+use native.Mathlib.Nat.{min-le-left}
+use native.Mathlib.Omega.{arith}
+use lib.ListN.{length, take, drop, length-append, length-take}
+use lib.Seq.{take-at}
+use Rattle.octets.specs.Octets.{laid, Begins}
+use Rattle.octets.proofs.Buffers.{goes-on}
+use Rattle.aes128.specs.Expansion.{expansion}
+use Rattle.gcm.specs.Gcm.{hashKey, tagBy, tag}
+use Rattle.wire.specs.Versions.{version}
+use Rattle.wire.specs.Written.{longFirst, longFields}
+use Rattle.wire.proofs.Forms.{long-length}
+use Rattle.gcm.proofs.Laws.{tag-length}
+use Rattle.packets.specs.Packet.{tagLength}
+use Rattle.retry.specs.Retry.{untagged, pseudoPacket, retryTag, tagged}
+use Rattle.retry.specs.Answers.{sizeOf}
+
+-- the first n of a list are no more than n
+pub front-short : (n : ℕ) (d : List ℕ) {m : ℕ} → n ≤ m → length (take n d) ≤ m
+front-short n d h = omega (arith, length-take n d, min-le-left n (length d))
+
+pub untagged-length : (v : ℕ) (destination source token : List ℕ) (low : ℕ)
+    → length (untagged v destination source token low) ≡ 7 + length destination + length source + length token
+unfolding untagged
+untagged-length v destination source token low =
+    omega (arith, long-length v destination source, length-append (longFields v destination source) token)
+
+pub retry-tag-length : (v : ℕ) (original packet : List ℕ) → length (retryTag v original packet) ≡ tagLength
+unfolding retryTag
+retry-tag-length v original packet = tag-length (version v .retryKey) (version v .retryNonce) (pseudoPacket original packet) []
+
+pub tagged-length : (v : ℕ) (original packet : List ℕ) → length (tagged v original packet) ≡ length packet + tagLength
+unfolding tagged
+tagged-length v original packet =
+    omega (arith, length-append packet (retryTag v original packet), retry-tag-length v original packet)
+
+pub retry-length : (v : ℕ) (original destination source token : List ℕ) (low : ℕ)
+    → length (tagged v original (untagged v destination source token low)) ≡ sizeOf destination source token
+retry-length v original destination source token low =
+    omega (arith, tagged-length v original (untagged v destination source token low), untagged-length v destination source token low)
+
+-- the tag by its key's schedule, each equation what a call ensures
+pub tag-made : (v : ℕ) (original packet : List ℕ) {key nonce schedule r : List ℕ} {h : ℕ}
+    → key ≡ version v .retryKey → nonce ≡ version v .retryNonce → schedule ≡ expansion key → h ≡ hashKey schedule
+    → r ≡ tagBy schedule h nonce (pseudoPacket original packet) [] → r ≡ retryTag v original packet
+unfolding retryTag tag
+tag-made v original packet k n s e is = rw (is, e, s, k, n)
+
+-- ---- what is written, piece by piece
+-- the token behind a first byte that says Retry, the version and the IDs
+pub token-laid : (v type : ℕ) (destination source token : List ℕ) (low : ℕ) (out d₁ d₂ : List ℕ) (at : ℕ) → type ≡ version v .retryType
+    → Begins (longFirst type (low % 16) ∷ longFields v destination source) out d₁ at → d₂ ≡ laid d₁ at token
+    → Begins (untagged v destination source token low) out d₂ (at + length token)
+unfolding untagged
+token-laid v type destination source token low out d₁ d₂ at is begins then =
+    let front : List ℕ = longFirst type (low % 16) ∷ longFields v destination source in
+    rw (← is) (record {
+      holds = goes-on front token out d₁ d₂ at (begins .holds) then (begins .ends);
+      ends = omega (arith, begins .ends, length-append front token);
+    })
+
+-- the tag behind all that
+pub tag-laid : (v : ℕ) (original packet out d₁ d₂ tag : List ℕ) (at : ℕ)
+    → Begins packet out d₁ at → tag ≡ retryTag v original (take at d₁) → d₂ ≡ laid d₁ at tag → Begins (tagged v original packet) out d₂ (at + tagLength)
+unfolding tagged
+tag-laid v original packet out d₁ d₂ tag at begins made then =
+    let front : take at d₁ ≡ packet = ap (take at) (begins .holds) ∙ take-at packet (drop (length packet) out) at (sym (begins .ends)) in
+    let is = made ∙ ap (retryTag v original) front in
+    record {
+      holds = goes-on packet (retryTag v original packet) out d₁ d₂ at (begins .holds) (then ∙ ap (laid d₁ at) is) (begins .ends);
+      ends = omega (arith, begins .ends, tagged-length v original packet);
+    }

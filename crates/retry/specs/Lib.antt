@@ -1,0 +1,2 @@
+pub mod Retry
+pub mod Answers
