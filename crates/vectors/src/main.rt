@@ -4,7 +4,9 @@ mod galois;
 mod hash;
 mod initial;
 mod numbers;
+mod opening;
 mod print;
+mod retrying;
 mod sealing;
 
 fn main() {
@@ -14,4 +16,6 @@ fn main() {
     galois::run();
     initial::run();
     sealing::run();
+    opening::run();
+    retrying::run();
 }
