@@ -55,7 +55,8 @@ fn tag_of(number: u32, original: &[u8], packet: &[u8]) -> [u8; 16]
     let nonce = version::retry_nonce(number);
     let schedule = aes128::expand_key(&key);
     let hash_key = gcm::tag::hash_key(&schedule);
-    let length = [original.len() as u8];
+    let count = original.len() as u8;
+    let length = [count];
     gcm::tag::make_tag(&schedule, hash_key, &nonce, &length, original, packet, b"")
 }
 
@@ -112,7 +113,8 @@ pub fn write_retry(
     if LIMIT - beside_token < token.len() {
         return Writing::Refused(refusal::SIZE);
     }
-    if out.len() < beside_token + token.len() {
+    let size = beside_token + token.len();
+    if out.len() < size {
         return Writing::Refused(refusal::ROOM);
     }
     Writing::Written(write_packet(version, original, destination, source, token, low_bits, out))

@@ -16,8 +16,8 @@ expand-key-requires c κs = search needs
 hash-key-requires : tie.Need-hash-key-requires
 hash-key-requires c κs = search needs
 
-cast-t16 : tie.Need-cast-t16
-cast-t16 c = search needs
+cast-count : tie.Need-cast-count
+cast-count c = search needs
 
 slice-aggregate-make-tag : tie.Need-slice-aggregate-make-tag
 slice-aggregate-make-tag c = search needs
@@ -39,7 +39,7 @@ tag-of-spec =
     retry-nonce-requires
     expand-key-requires
     hash-key-requires
-    cast-t16
+    cast-count
     slice-aggregate-make-tag
     slice-aggregate-make-tag-2
     make-tag-requires

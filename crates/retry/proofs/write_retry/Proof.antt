@@ -41,8 +41,8 @@ sub-if6 c = search needs
 returns-6 : tie.Need-returns-6
 returns-6 c = write-refused (write-large _ _ _ _ _ _ _ (sym (c .before .before .before .before .before .before .is-known .ensures) ∙ not-false _ (c .before .before .before .before .before .if1 .left)) (omega arith) (omega arith) (omega arith) (omega arith) (omega arith))
 
-add-if7 : tie.Need-add-if7
-add-if7 c = search needs
+add-size : tie.Need-add-size
+add-size c = search needs
 
 returns-7 : tie.Need-returns-7
 returns-7 c = write-refused (write-no-room _ _ _ _ _ _ _ (sym (c .before .before .before .before .before .before .before .is-known .ensures) ∙ not-false _ (c .before .before .before .before .before .before .if1 .left)) (omega arith) (omega arith) (omega arith) (omega arith) (omega arith) (omega arith))
@@ -71,7 +71,7 @@ write-retry-spec =
     add-beside-token-3
     sub-if6
     returns-6
-    add-if7
+    add-size
     returns-7
     write-packet-requires
     same-length
