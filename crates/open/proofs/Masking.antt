@@ -3,7 +3,7 @@ use Prim.Native.Nat.{ℕ, _+_, _%_, _≤_}
 use mathlib.Core.Path.{_≡_, sym, ap, _∙_}
 use mathlib.Core.List.{List}
 use native.Mathlib.Omega.{arith}
-use lib.ListN.{length, getD, take, drop, length-take, length-drop}
+use lib.ListN.{length, getD, take, drop, length-drop}
 use lib.Seq.{take-all, take-at}
 use Rattle.octets.specs.Octets.{bytes, part, xor, laid}
 use Rattle.octets.proofs.Xor.{xor-length}
@@ -15,10 +15,6 @@ use Rattle.packets.proofs.Parts.{part-length}
 use Rattle.packets.proofs.Opening.{number-length}
 use Rattle.open.specs.Found.{Spells, Unmasks}
 use Rattle.open.specs.declared.Bare.{Bare}
-
--- no more is taken than there is
-pub taken-few : (m n : ℕ) (s : List ℕ) → length s ≤ m → length (take n s) ≤ m
-taken-few m n s h = omega (arith, length-take n s)
 
 -- the number's bytes without the mask, put at the start of a small buffer and taken from there
 pub short-taken : (d mask buffer : List ℕ) (place len count : ℕ) → length mask ≡ 16 → len ≡ count → place + count ≤ length d

@@ -1,10 +1,8 @@
 -- The tag of the pieces is the tag of the plain header and the ciphertext.
 use Prim.Native.Nat.{_-_}
-use mathlib.Core.Path.{sym}
 use borrow.Author.Needs.{needs}
 use native.Mathlib.Omega.{arith}
 use lib.ListN.{replicate, length-take, length-drop}
-use lib.Seq.{length-take-le}
 use Rattle.gcm.specs.Table.{num}
 use Rattle.open.proofs.Pieces.{matches}
 use Rattle.open.proofs.tag_matches.Statement.{statement}
@@ -44,7 +42,9 @@ array-share-prefix-short : tie.Need-array-share-prefix-short
 array-share-prefix-short c = search needs
 
 slice-aggregate-make-tag-2 : tie.Need-slice-aggregate-make-tag-2
-slice-aggregate-make-tag-2 c = sym (length-take-le _ _ (omega (arith, c .before .before .before .before .before .before .store .kept .0)))
+slice-aggregate-make-tag-2 c =
+    let s = c .before .before .before .before .before .before in
+    omega (arith, length-take (s .before .before .before .before .args .packet .count) (s .store .last .0), s .store .kept .0)
 
 sub-make-tag-2 : tie.Need-sub-make-tag-2
 sub-make-tag-2 c = search needs

@@ -4,11 +4,11 @@ use mathlib.Core.Path.{refl, sym, ap, _∙_}
 use borrow.Author.Needs.{needs}
 use native.Mathlib.Omega.{arith}
 use lib.Bits.{bitXor}
-use lib.ListN.{getD, take, replicate}
+use lib.ListN.{getD, take, replicate, length-take}
 use lib.Seq.{length-take-le}
 use Rattle.packets.specs.Protection.{onFirst}
 use Rattle.packets.specs.KeyRecord.{keysOf}
-use Rattle.open.proofs.Masking.{taken-few, short-taken, unmasks}
+use Rattle.open.proofs.Masking.{short-taken, unmasks}
 use Rattle.open.proofs.unmask.Statement.{statement}
 use Rattle.open.proofs.unmask.Tie as tie
 
@@ -61,9 +61,7 @@ slice-aggregate-read-short : tie.Need-slice-aggregate-read-short
 slice-aggregate-read-short c = sym (length-take-le _ _ (omega (arith, c .before .before .copy-masked .kept .0)))
 
 read-short-requires : tie.Need-read-short-requires
-read-short-requires c κs =
-    let m = c .before .before .before .before .before .before .before .before in
-    taken-few 4 (bitXor (getD (m .before .before .before .before .args .datagram .now) 0 0) (getD (m .mask-of .result) 0 0 % 16) % 4 + 1) (c .before .before .copy-masked .last .0) (omega (arith, c .before .before .copy-masked .kept .0))
+read-short-requires c κs = simp length-take (omega (arith, c .before .before .copy-masked .kept .0))
 
 returns : tie.Need-returns
 unfolding onFirst
