@@ -3,11 +3,10 @@ use Prim.Native.Nat.{ℕ, _-_}
 use mathlib.Core.Path.{sym, ap, _∙_}
 use borrow.Author.Needs.{needs}
 use native.Mathlib.Omega.{arith}
-use lib.ListN.{take}
+use lib.ListN.{take, length-take, length-drop}
 use lib.Seq.{length-take-le}
 use Rattle.octets.specs.Octets.{part}
 use Rattle.gcm.specs.Gcm.{tagBy}
-use Rattle.packets.proofs.Parts.{part-length}
 use Rattle.seal.proofs.Bodies.{one-piece}
 use Rattle.seal.proofs.tag_over.Statement.{statement}
 use Rattle.seal.proofs.tag_over.Tie as tie
@@ -34,11 +33,7 @@ part-make-tag-end : tie.Need-part-make-tag-end
 part-make-tag-end c = search needs
 
 make-tag-requires : tie.Need-make-tag-requires
-make-tag-requires c κs =
-    let a = c .before .before .before .before .before .before .args in
-    let header = length-take-le (a .at) (a .packet .now) (omega arith) in
-    let text = part-length (a .packet .now) (a .at) (a .end - a .at) (omega arith) in
-    (omega arith, omega arith)
+make-tag-requires c κs = (simp length-take (omega arith), simp (length-take, length-drop) (omega arith))
 
 returns : tie.Need-returns
 returns c =
