@@ -10,28 +10,10 @@ use lib.Bits.{bitXor, bitOr, or-add-and, and-le-l, and-le-r, xor-self}
 use lib.Dec.{eqb}
 use lib.ListN.{length, getD, drop, drop-of-length-le}
 use lib.Seq.{drop-cons}
-use Rattle.octets.proofs.Outcome.{both}
 use Rattle.octets.proofs.Xor.{xor-twice}
-use Rattle.gcm.specs.Same.{same}
+use Rattle.octets.specs.Octets.{same}
 
--- ---- `same` decides equality
-pub same-true : (a b : List ℕ) → same a b ≡ true → a ≡ b
-unfolding same
-same-true [] [] h = refl
-same-true [] (y ∷ b) h = absurd (let z : _≡_ {A = ℕ} 0 1 = cc in omega arith)
-same-true (x ∷ a) [] h = absurd (let z : _≡_ {A = ℕ} 0 1 = cc in omega arith)
-same-true (x ∷ a) (y ∷ b) h =
-    let t = both (eqb x y) (same a b) h in
-    ap₂ (λ (e : ℕ) (s : List ℕ). e ∷ s) (eqb-true x y (t .0)) (same-true a b (t .1))
-
-same-refl : (a : List ℕ) → same a a ≡ true
-unfolding same
-same-refl [] = refl
-same-refl (x ∷ a) = rw (eq-eqb x x refl) (same-refl a)
-
-pub true-same : (a b : List ℕ) → a ≡ b → same a b ≡ true
-true-same a b e = rw (← e) (same-refl a)
-
+-- ---- lists of other lengths are not the same
 pub same-lengths : (a b : List ℕ) → (length a ≡ length b → ⊥) → same a b ≡ false
 unfolding same
 same-lengths [] [] h = absurd (h refl)

@@ -6,7 +6,7 @@ ghost use lib.ListN.{length};
 ghost use Rattle.octets.specs.Octets.{bytes};
 ghost use Rattle.gcm.specs.Table.{num};
 ghost use Rattle.gcm.specs.Gcm.{gctr, hashKey, j0, hashed, tagBy};
-ghost use Rattle.gcm.specs.Same.{same};
+ghost use Rattle.octets.specs.Octets.{same};
 use crate::field::Block;
 
 // The hash key H (section 7.1, step 1).

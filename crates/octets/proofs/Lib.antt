@@ -3,3 +3,4 @@ pub mod Numbers
 pub mod Xor
 pub mod Buffers
 pub mod Rule
+pub mod Same

@@ -6,7 +6,7 @@ use mathlib.Core.List.{List}
 use native.Mathlib.Omega.{arith}
 use lib.Dec.{eqb}
 use Rattle.octets.specs.Outcome.{refused, given, unless, _>>_}
-use Rattle.octets.specs.Octets.{bytes, number as spells}
+use Rattle.octets.specs.Octets.{bytes, number as spells, same}
 use Rattle.wire.specs.Numbers.{numbers, decoded, recovered}
 use Rattle.wire.specs.Versions.{known}
 use Rattle.wire.specs.Header.{Header, header}
@@ -14,7 +14,7 @@ use Rattle.wire.specs.declared.number.FullPn.{FullPn}
 use Rattle.wire.proofs.Headers.{header-there}
 use Rattle.gcm.specs.Gcm.{tag}
 use Rattle.packets.specs.Protection.{Keys, nonce}
-use Rattle.packets.specs.Packet.{opened, same, tagLength}
+use Rattle.packets.specs.Packet.{opened, tagLength}
 use Rattle.packets.specs.AesGcm.{aesGcm}
 use Rattle.packets.proofs.Opening.{number-some, number-few, recovery-refused, recovery-given, open-range, open-tag, open-given}
 use Rattle.open.specs.Found.{Unmasks, plainOf, cipherOf, tagOf, openedAs, Found}

@@ -1,29 +1,18 @@
 -- The tag over a packet's pieces, and the pieces written one behind the other.
 use Prim.Native.Nat.{ℕ, _+_, _-_}
-use mathlib.Core.Path.{_≡_, refl, sym, ap, _∙_}
-use mathlib.Core.Bool.{Bool, _&&_}
+use mathlib.Core.Path.{_≡_, refl, sym, _∙_}
+use mathlib.Core.Bool.{Bool}
 use mathlib.Core.List.{List, [], _∷_, _++_}
 use native.Mathlib.Omega.{arith}
-use lib.Dec.{eqb}
 use lib.ListN.{length, take, drop, length-append}
 use lib.Seq.{take-at}
-use Rattle.octets.specs.Octets.{bytes, part, laid}
+use Rattle.octets.specs.Octets.{bytes, part, laid, same}
 use Rattle.octets.proofs.Numbers.{bytes-length}
 use Rattle.octets.proofs.Buffers.{goes-on}
 use Rattle.gcm.specs.Gcm.{streamBy, tagBy, hashKey}
-use Rattle.gcm.specs.Same as Section7
-use Rattle.packets.specs.Packet.{same}
 use Rattle.packets.proofs.Parts.{part-length}
 use Rattle.open.specs.Found.{Within, plainOf, cipherOf, tagOf, Matches, Writes}
 use Rattle.open.specs.declared.Packet.{Packet}
-
--- both rooms compare bytes alike
-same-same : (xs ys : List ℕ) → Section7.same xs ys ≡ same xs ys
-unfolding Section7.same same
-same-same [] [] = refl
-same-same [] (y ∷ ys) = refl
-same-same (x ∷ xs) [] = refl
-same-same (x ∷ xs) (y ∷ ys) = ap (λ (b : Bool). eqb x y && b) (same-same xs ys)
 
 -- a short number put at the start of a small buffer, and taken from there
 number-taken : (buffer : List ℕ) (n t : ℕ) → take n (laid buffer 0 (bytes n t)) ≡ bytes n t
@@ -57,11 +46,10 @@ module _ (d : List ℕ) (p : Packet) (w : Within d p) where
     pub matches : (key : ℕ) (buffer short right : List ℕ) (r : Bool) → key ≡ hashKey schedule
         → short ≡ laid buffer 0 (bytes (p .count) (p .truncated .0))
         → right ≡ tagBy schedule key nonce (p .first ∷ middle ++ take (p .count) short) (part d (p .place + p .count) (p .place + p .length - 16 - (p .place + p .count)))
-        → r ≡ Section7.same (part d (p .place + p .length - 16) (p .place + p .length - (p .place + p .length - 16))) right
+        → r ≡ same (part d (p .place + p .length - 16) (p .place + p .length - (p .place + p .length - 16))) right
         → Matches schedule nonce d p r
     matches key buffer short right r its-key its-number its-tag is =
         is
-        ∙ same-same (part d (p .place + p .length - 16) (p .place + p .length - (p .place + p .length - 16))) right
         ∙ rw (its-tag, its-key, its-number, number-taken buffer (p .count) (p .truncated .0), cipher-is, tag-is)
 
     -- first byte, middle, number, payload

@@ -1,5 +1,4 @@
 pub mod Filled
-pub mod Same
 pub mod Parts
 pub mod Sealing
 pub mod Opening

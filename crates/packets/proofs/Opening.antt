@@ -9,7 +9,7 @@ use lib.ListN.{length, getD, take, drop}
 use lib.Seq.{getD-take, length-take-le}
 use borrow.Author.Tests.{le-leb, lt-leb, lt-ltb, le-ltb, eq-eqb, ne-eqb, ltb-true, ltb-false}
 use Rattle.octets.specs.Outcome.{refused, given, unless, _>>_}
-use Rattle.octets.specs.Octets.{Bytes, number, part}
+use Rattle.octets.specs.Octets.{Bytes, number, part, same}
 use Rattle.octets.proofs.Outcome.{apart, given-same}
 use Rattle.octets.proofs.Numbers.{byte-power, number-lt}
 use Rattle.wire.specs.Numbers.{numbers, window, decoded, recovered}
@@ -19,7 +19,7 @@ use Rattle.wire.proofs.Recovery.{recover-range, recover-given}
 use Rattle.wire.proofs.Headers.{header-there}
 use Rattle.packets.specs.Suite.{Suite}
 use Rattle.packets.specs.Protection.{Keys, nonce, onFirst, onNumber, sampleOf}
-use Rattle.packets.specs.Packet.{same, tagLength, maskOf, Opened, unprotected, opened}
+use Rattle.packets.specs.Packet.{tagLength, maskOf, Opened, unprotected, opened}
 use Rattle.packets.specs.Parts.{Unmasked, plainIn, cipherIn, tagIn}
 use Rattle.packets.proofs.Parts.{xor-bytes, part-bytes, drop-bytes, part-taken, part-length, cipher-part, tag-part}
 use Rattle.packets.proofs.Sealing.{masked-length}

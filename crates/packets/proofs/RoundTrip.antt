@@ -25,7 +25,7 @@ use Rattle.packets.specs.Protection.{Keys, nonce, onFirst, onNumber, sam
 use Rattle.packets.specs.Packet.{opened}
 use Rattle.packets.specs.Parts.{Unmasked, plainIn, cipherIn, tagIn}
 use Rattle.packets.specs.Effects.{whatWasSealed}
-use Rattle.packets.proofs.Same.{equal-same}
+use Rattle.octets.proofs.Same.{equal-same}
 use Rattle.packets.proofs.Parts.{part-front}
 use Rattle.packets.proofs.Sealing.{Sealed, short-length, masked-length, packet-is, packet-length}
 use Rattle.packets.proofs.Opening.{open-given}

@@ -1,11 +1,11 @@
 -- Sealing and opening: RFC 9001 section 5, over any suite, with document 01's order of refusals.
 use Prim.Native.Nat.{ℕ, _+_, _-_, _/_, _%_}
-use mathlib.Core.List.{List, [], _∷_, _++_}
-use mathlib.Core.Bool.{Bool, true, false, _&&_}
+use mathlib.Core.List.{List, _∷_, _++_}
+use mathlib.Core.Bool.{_&&_}
 use lib.Dec.{leb, ltb, eqb}
 use lib.ListN.{length, getD, take, drop}
 use Rattle.octets.specs.Outcome.{Outcome, given, unless, _>>=_, _>>_}
-use Rattle.octets.specs.Octets.{bytes, number, part}
+use Rattle.octets.specs.Octets.{bytes, number, part, same}
 use Rattle.wire.specs.Numbers.{Acknowledged, numbers, shortened, decoded}
 use Rattle.wire.specs.Versions.{known}
 use Rattle.wire.specs.Header.{header, limit, longestId}
@@ -16,13 +16,6 @@ use Rattle.packets.specs.Protection.{Keys, nonce, onFirst, onNumber, sam
 -- the tag's length
 abbrev pub tagLength : ℕ
 tagLength = 16
-
--- two lists of bytes are the same, whole
-unfoldable pub same : List ℕ → List ℕ → Bool
-same [] [] = true
-same [] (y ∷ ys) = false
-same (x ∷ xs) [] = false
-same (x ∷ xs) (y ∷ ys) = eqb x y && same xs ys
 
 module _ (suite : Suite) where
   abbrev pub maskOf : Keys → (packet : List ℕ) (numberAt : ℕ) → List ℕ

@@ -6,7 +6,7 @@ use native.Mathlib.Omega.{arith}
 use lib.Dec.{T, leb, ltb, lit<, lit≤}
 use lib.ListN.{length, length-append}
 use Rattle.octets.specs.Outcome.{given}
-use Rattle.octets.specs.Octets.{bytes, number, xor}
+use Rattle.octets.specs.Octets.{bytes, number, xor, same}
 use Rattle.octets.proofs.Numbers.{bytes-length}
 use Rattle.octets.proofs.Xor.{xor-length, xor-undone}
 use Rattle.wire.specs.Versions.{version1, draft2, known, version}
@@ -16,7 +16,7 @@ use Rattle.wire.specs.Header.{idAt, versionOf, judged, long, integerAt, fieldAt
 use Rattle.wire.specs.Written.{two, smallest, longFields, initialFields, firstByte}
 use Rattle.packets.specs.Suite.{Laws}
 use Rattle.packets.specs.Protection.{nonce, onFirst, onNumber, sampleOf}
-use Rattle.packets.specs.Packet.{same, bodyOf, packetOf, sealed, unprotected, opened}
+use Rattle.packets.specs.Packet.{bodyOf, packetOf, sealed, unprotected, opened}
 use Rattle.receiver.specs.Receiver.{Good, Fair}
 use Rattle.receiver.specs.Example.{toy, keys, plainOf, sealedOf, parcelOf, comes, empty, damaged, coming, opens, refuses, lent, Example}
 use Rattle.receiver.proofs.Receiver.{demand3}

@@ -1,5 +1,5 @@
 -- Document 01, "On either side of a boundary": the lines marked (P), as one table under one statement.
-use Prim.Native.Nat.{ℕ, _-_, _^_}
+use Prim.Native.Nat.{_-_, _^_}
 use mathlib.Core.Path.{_≡_}
 use mathlib.Core.List.{[], _∷_}
 use Rattle.octets.specs.Outcome.{refused, given}

@@ -4,9 +4,9 @@ use mathlib.Core.Path.{_≡_, sym, ap, _∙_}
 use mathlib.Core.List.{List}
 use lib.ListN.{length}
 use Rattle.octets.specs.Outcome.{Outcome, refused, given}
-use Rattle.octets.specs.Octets.{placed, Begins}
+use Rattle.octets.specs.Octets.{placed, Begins, lengthGiven}
 use Rattle.retry.specs.Retry.{retryWritten}
-use Rattle.retry.specs.Answers.{lengthGiven, WriteRetry}
+use Rattle.retry.specs.Answers.{WriteRetry}
 use Rattle.retry.specs.declared.Writing.the-variants as Writing
 
 module _ {v : ℕ} {original destination source token : List ℕ} {low : ℕ} {out : List ℕ} where

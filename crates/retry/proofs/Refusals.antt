@@ -13,7 +13,7 @@ use Rattle.wire.specs.Versions.{known}
 use Rattle.wire.specs.Header.{Place, Long, behind, limit, longestId, long}
 use Rattle.wire.proofs.Fields.{Within}
 use Rattle.wire.proofs.Headers.{long-there}
-use Rattle.gcm.specs.Same.{same}
+use Rattle.octets.specs.Octets.{same}
 use Rattle.packets.specs.Packet.{tagLength}
 use Rattle.retry.specs.Retry.{RetryFields, untagged, retryTag, tagged, retryWritten, tokenAt, retryChecked}
 use Rattle.retry.specs.Answers.{sizeOf}

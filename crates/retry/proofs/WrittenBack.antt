@@ -15,8 +15,8 @@ use Rattle.wire.proofs.Versions.{retry-fits}
 use Rattle.wire.proofs.Headers.{handed-part}
 use Rattle.wire.proofs.HeaderBack.{first-form, long-read, longPlaces, behind-ids, destination-back, source-back}
 use Rattle.wire.proofs.Places.{At, part-at}
-use Rattle.gcm.specs.Same.{same}
-use Rattle.gcm.proofs.Comparing.{true-same}
+use Rattle.octets.specs.Octets.{same}
+use Rattle.octets.proofs.Same.{equal-same}
 use Rattle.packets.specs.Packet.{tagLength}
 use Rattle.retry.specs.Retry.{RetryFields, untagged, retryTag, tagged, retryWritten, tokenAt, retryChecked}
 use Rattle.retry.proofs.Packets.{untagged-length, retry-tag-length}
@@ -85,7 +85,7 @@ module _ (v : ℕ) (original destination source token : List ℕ) (low : ℕ) (p
   unfolding tagged
   tag-read =
       let here : length before ≡ tokenPlace + length token = untagged-length v destination source token low ∙ omega arith in
-      true-same _ _ (rw (made .is, take-at before after (tokenPlace + length token) here, drop-at before after (tokenPlace + length token) here))
+      equal-same _ _ (rw (made .is, take-at before after (tokenPlace + length token) here, drop-at before after (tokenPlace + length token) here))
 
   checked : retryChecked original packet ≡ given (retryPlaces v destination source token)
   checked = check-given original packet (made .short-original) (sym long-back) (sym token-read) tag-read

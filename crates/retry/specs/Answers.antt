@@ -4,7 +4,7 @@ use mathlib.Core.Path.{_≡_}
 use mathlib.Core.List.{List}
 use lib.ListN.{length}
 use Rattle.octets.specs.Outcome.{Outcome, refused, given}
-use Rattle.octets.specs.Octets.{placed}
+use Rattle.octets.specs.Octets.{placed, lengthGiven}
 use Rattle.wire.specs.Header.{limit, longestId}
 use Rattle.wire.specs.HeaderAnswers.{placeOf, handed}
 use Rattle.packets.specs.Packet.{tagLength}
@@ -20,11 +20,6 @@ use Rattle.retry.specs.declared.Checking.the-variants as Checking
 abbrev pub writingAnswer : Writing → Outcome ℕ
 writingAnswer (Writing.Refused n) = refused n
 writingAnswer (Writing.Written n) = given n
-
--- how long the packet is
-abbrev pub lengthGiven : Outcome (List ℕ) → Outcome ℕ
-lengthGiven (refused n) = refused n
-lengthGiven (given s) = given (length s)
 
 pub record WriteRetry (v : ℕ) (original destination source token : List ℕ) (low : ℕ) (before : List ℕ) (r : Writing) (after : List ℕ) : Type 0 where
   pub answer : writingAnswer r ≡ lengthGiven (retryWritten v original destination source token low (length before))

@@ -9,7 +9,7 @@ use Rattle.wire.specs.Versions.{known, version}
 use Rattle.wire.specs.Header.{Place, behind, limit, longestId, whole, long}
 use Rattle.wire.specs.Written.{longFirst, withLength, longFields}
 use Rattle.gcm.specs.Gcm.{tag}
-use Rattle.gcm.specs.Same.{same}
+use Rattle.octets.specs.Octets.{same}
 use Rattle.packets.specs.Packet.{tagLength}
 
 -- ---- RFC 9000 section 17.2.5: the packet up to its tag

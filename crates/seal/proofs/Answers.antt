@@ -4,14 +4,14 @@ use mathlib.Core.Path.{_≡_, sym, ap, _∙_}
 use mathlib.Core.List.{List}
 use lib.ListN.{length}
 use Rattle.octets.specs.Outcome.{Outcome, refused, given}
-use Rattle.octets.specs.Octets.{begun, placed}
+use Rattle.octets.specs.Octets.{begun, placed, lengthGiven}
 use Rattle.wire.specs.Numbers.{Acknowledged}
 use Rattle.wire.specs.Written.{Plain}
 use Rattle.packets.specs.Protection.{Keys}
 use Rattle.packets.specs.Packet.{packetOf, sealed}
 use Rattle.packets.specs.AesGcm.{aesGcm}
 use Rattle.seal.specs.declared.Sealing.the-variants as Sealing
-use Rattle.seal.specs.Sealing.{lengthGiven, Seal}
+use Rattle.seal.specs.Sealing.{Seal}
 
 module _ (k : Keys) (a : Acknowledged) (p : Plain) (out : List ℕ) where
   -- refused, and the buffer as it was

@@ -4,7 +4,7 @@ use mathlib.Core.Path.{_≡_}
 use mathlib.Core.List.{List, _++_}
 use lib.ListN.{length}
 use Rattle.octets.specs.Outcome.{Outcome, refused, given}
-use Rattle.octets.specs.Octets.{begun, placed}
+use Rattle.octets.specs.Octets.{begun, placed, lengthGiven}
 use Rattle.gcm.specs.Gcm.{stream, tag}
 use Rattle.wire.specs.Numbers.{Acknowledged}
 use Rattle.wire.specs.Header.{limit, longestId}
@@ -18,11 +18,6 @@ use Rattle.seal.specs.declared.Sealing.the-variants as Sealing
 abbrev pub sealingAnswer : Sealing → Outcome ℕ
 sealingAnswer (Sealing.Refused n) = refused n
 sealingAnswer (Sealing.Written n) = given n
-
--- how long the packet is
-abbrev pub lengthGiven : Outcome (List ℕ) → Outcome ℕ
-lengthGiven (refused n) = refused n
-lengthGiven (given s) = given (length s)
 
 pub record Seal (k : Keys) (a : Acknowledged) (p : Plain) (before : List ℕ) (r : Sealing) (after : List ℕ) : Type 0 where
   pub answer : sealingAnswer r ≡ lengthGiven (sealed aesGcm k a p (length before))

@@ -17,7 +17,8 @@ use Rattle.wire.proofs.Versions.{version-fits, initial-fits}
 use Rattle.wire.proofs.Fields.{id-whole, integer-found, field-whole, rest-whole}
 use Rattle.wire.proofs.Headers.{version-found, judged-right, long-found, header-found}
 use Rattle.wire.proofs.Places.{At, begins, past, byte-at, part-at}
-use Rattle.wire.proofs.IntegersBack.{two-back, smallest-back, two-length}
+use Rattle.wire.proofs.IntegersBack.{two-back, smallest-back}
+use Rattle.wire.proofs.Forms.{two-bytes}
 
 -- ---- one field
 module _ (d : List ℕ) (at : ℕ) where
@@ -40,7 +41,7 @@ module _ (d : List ℕ) (at : ℕ) where
   pub rest-read : (n : ℕ) (rest : List ℕ) → At d at (two n ++ rest) → n < 2 ^ 14 → leastLength ≤ n → n ≤ length rest
       → restAt d at ≡ given (record { at = at + 2; len = n })
   rest-read n rest h small enough all =
-      let end = past d at (at + 2) (two n) rest h (ap (λ (k : ℕ). at + k) (two-length n)) in
+      let end = past d at (at + 2) (two n) rest h (ap (λ (k : ℕ). at + k) (two-bytes n)) in
       let is = sym (ap integer (h .there) ∙ two-back n rest small) in
       rest-whole d at (sym (integer-found d at is)) enough (omega arith)
 
@@ -188,7 +189,7 @@ module _ (v first : ℕ) (p : Plain) (d rest : List ℕ) (is : d ≡ first ∷ f
 
   -- what stands behind Length
   pub at-number : At d (numberAt p) rest
-  at-number = past d (lengthAt p) (numberAt p) (two (lengthOf p)) rest at-length (ap (λ (k : ℕ). lengthAt p + k) (two-length (lengthOf p)))
+  at-number = past d (lengthAt p) (numberAt p) (two (lengthOf p)) rest at-length (ap (λ (k : ℕ). lengthAt p + k) (two-bytes (lengthOf p)))
 
   pub token-back : part d (tokenAt p) (length (p .token)) ≡ p .token
   token-back = part-at d (tokenAt p) (length (p .token)) (p .token) (fromLength p rest) at-token refl

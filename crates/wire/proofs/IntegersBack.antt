@@ -42,7 +42,3 @@ smallest-back n rest h = by (ltb n (2 ^ 6)) (ltb n (2 ^ 14)) refl refl
     by true b p q = rw (p, bytes-length 1 n) (one-back n rest (ltb-true n (2 ^ 6) p))
     by false true p q = rw (p, q, bytes-length 2 (2 ^ 14 + n)) (two-back n rest (ltb-true n (2 ^ 14) q))
     by false false p q = rw (p, q, bytes-length 4 (2 ^ 31 + n)) (four-back n rest h)
-
-pub two-length : (n : ℕ) → length (two n) ≡ 2
-unfolding two
-two-length n = bytes-length 2 (2 ^ 14 + n)

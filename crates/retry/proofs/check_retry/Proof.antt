@@ -8,7 +8,7 @@ use lib.Seq.{length-take-le}
 use Rattle.wire.specs.HeaderAnswers.{foundAnswer, longAnswer}
 use Rattle.wire.proofs.Fields.{to-end}
 use Rattle.wire.proofs.Headers.{long-there}
-use Rattle.gcm.specs.Same.{same}
+use Rattle.octets.specs.Octets.{same}
 use Rattle.retry.proofs.Packets.{front-short}
 use Rattle.retry.proofs.Refusals.{token-there, check-long-original, check-no-long, check-no-token, check-other-tag, check-given}
 use Rattle.retry.proofs.check_retry.Statement.{statement}

@@ -6,7 +6,7 @@ use native.Mathlib.Omega.{arith}
 use borrow.Author.Needs.{needs}
 use lib.ListN.{length, drop}
 use lib.Dec.{eqb}
-use Rattle.gcm.specs.Same.{same}
+use Rattle.octets.specs.Octets.{same}
 use Rattle.gcm.proofs.Comparing.{same-lengths, same-turn, same-end}
 use Rattle.gcm.proofs.tag.same_tag.Statement.{statement}
 use Rattle.gcm.proofs.tag.same_tag.Tie as tie
