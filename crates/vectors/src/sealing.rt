@@ -89,12 +89,12 @@ fn papers() {
 
 // A line of the length, or of the refusal, for a payload of so many bytes and a buffer of so many.
 fn length(label: &[u8], number: u64, count: usize, token: usize, payload: usize, room: usize)
-    requires { ⌜ (token ≤ 4000) × (payload ≤ 4000) × (room ≤ 4000) ⌝ }
+    requires { ⌜ (token ≤ 1600) × (payload ≤ 1600) × (room ≤ 1600) ⌝ }
 {
     let keys = initial_keys(1, b"wicket", Side::Client).keys;
-    let tokens = [0u8; 4000];
-    let payloads = [0u8; 4000];
-    let mut out = [0u8; 4000];
+    let tokens = [0u8; 1600];
+    let payloads = [0u8; 1600];
+    let mut out = [0u8; 1600];
     print::label(label);
     match seal(
         keys,
@@ -114,21 +114,21 @@ fn length(label: &[u8], number: u64, count: usize, token: usize, payload: usize,
 
 // Just inside and just outside of each bound on lengths.
 fn lengths() {
-    length(b"seal, number length 1 and payload 2", 0, 1, 0, 2, 4000);
-    length(b"seal, number length 1 and payload 3", 0, 1, 0, 3, 4000);
-    length(b"seal, number length 4 and no payload", 0, 4, 0, 0, 4000);
-    length(b"seal, token of 63 bytes", 0, 1, 63, 3, 4000);
-    length(b"seal, token of 64 bytes", 0, 1, 64, 3, 4000);
-    length(b"seal, 1500 bytes", 0, 1, 0, 1467, 4000);
-    length(b"seal, 1501 bytes", 0, 1, 0, 1468, 4000);
-    length(b"seal, payload of 4000 bytes", 0, 1, 0, 4000, 4000);
-    length(b"seal, token of 4000 bytes", 0, 1, 4000, 3, 4000);
+    length(b"seal, number length 1 and payload 2", 0, 1, 0, 2, 1600);
+    length(b"seal, number length 1 and payload 3", 0, 1, 0, 3, 1600);
+    length(b"seal, number length 4 and no payload", 0, 4, 0, 0, 1600);
+    length(b"seal, token of 63 bytes", 0, 1, 63, 3, 1600);
+    length(b"seal, token of 64 bytes", 0, 1, 64, 3, 1600);
+    length(b"seal, 1500 bytes", 0, 1, 0, 1467, 1600);
+    length(b"seal, 1501 bytes", 0, 1, 0, 1468, 1600);
+    length(b"seal, payload of 1600 bytes", 0, 1, 0, 1600, 1600);
+    length(b"seal, token of 1600 bytes", 0, 1, 1600, 3, 1600);
     length(b"seal, exact room", 0, 1, 0, 3, 36);
     length(b"seal, a byte less than the room", 0, 1, 0, 3, 35);
-    length(b"seal, number 2^62", 1 << 62, 1, 0, 3, 4000);
-    length(b"seal, number 2^31", 1 << 31, 4, 0, 3, 4000);
-    length(b"seal, no number bytes", 0, 0, 0, 4, 4000);
-    length(b"seal, five number bytes", 0, 5, 0, 4, 4000);
+    length(b"seal, number 2^62", 1 << 62, 1, 0, 3, 1600);
+    length(b"seal, number 2^31", 1 << 31, 4, 0, 3, 1600);
+    length(b"seal, no number bytes", 0, 0, 0, 4, 1600);
+    length(b"seal, five number bytes", 0, 5, 0, 4, 1600);
 }
 
 // Two faults at once: what stands first in the order is answered.
@@ -182,6 +182,6 @@ fn order() {
         &longer,
         b"",
     );
-    length(b"seal, short before size", 0, 1, 4000, 0, 4000);
-    length(b"seal, size before room", 0, 1, 0, 4000, 0);
+    length(b"seal, short before size", 0, 1, 1600, 0, 1600);
+    length(b"seal, size before room", 0, 1, 0, 1600, 0);
 }
