@@ -2,6 +2,7 @@
 mod cipher;
 mod galois;
 mod hash;
+mod headers;
 mod initial;
 mod numbers;
 mod opening;
@@ -18,4 +19,5 @@ fn main() {
     sealing::run();
     opening::run();
     retrying::run();
+    headers::run();
 }
