@@ -20,3 +20,13 @@ test:
 	@cd second && cargo test --quiet --lib --target-dir ../target/second
 	@echo "Proving every crate from nothing, trying every edit, running every program ..."
 	@rt ci
+
+# The library against programs that share nothing with it, ngtcp2 and tshark: interop/README.md. What is missing is said
+# before the library is proved.
+.PHONY: interop interop-needs
+interop: interop-needs lib
+	@echo "Exchanging packets with ngtcp2 and letting tshark read them ..."
+	@interop/run
+
+interop-needs:
+	@interop/run --needs
