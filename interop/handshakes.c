@@ -11,8 +11,8 @@ struct relay {
     char sealed[32];  /* ... and as the library sealed */
     uint8_t keys[2][KEY_RECORD];
     uint64_t expected[2];
-    unsigned initials[2];
-    unsigned refused;
+    unsigned seen;           /* Initials that came by */
+    unsigned sealed_anew[2]; /* Initials handed on, by their senders */
 };
 
 static void write_hex(FILE *file, const uint8_t *at, size_t length)
@@ -54,7 +54,7 @@ static uint32_t seal_anew(const struct relay *relay, enum sender sender, const s
     uint32_t version;
     uint32_t answer = read_initial(datagram, &version, &header);
     header.number = opened->number;
-    header.number_length = 1 + (relay->initials[CLIENT] + relay->initials[SERVER]) % 4;
+    header.number_length = 1 + relay->seen % 4;
     if (answer == 0)
         answer = seal_packet(relay->keys[sender], &header, &payload, sealed);
     if (answer != 0 || sealed->length >= opened->used)
@@ -73,16 +73,16 @@ static struct bytes pass(struct relay *relay, enum sender sender, const struct b
     uint64_t expected = relay->expected[sender];
     if (read_initial(datagram, &version, &header) != 0)
         return *datagram;
-    if (open_packet(relay->keys[sender], &relay->expected[sender], datagram, &opened) != 0 ||
-        seal_anew(relay, sender, datagram, &opened, &sealed) != 0 ||
-        open_packet(relay->keys[sender], &expected, &sealed, &again) != 0) {
-        relay->refused++;
+    relay->seen++;
+    if (open_packet(relay->keys[sender], &relay->expected[sender], datagram, &opened) != 0)
         return *datagram;
-    }
-    append(&sealed, datagram->at + opened.used, datagram->length - (size_t)opened.used);
-    relay->initials[sender]++;
     record_initial(relay->record, relay->written, sender, datagram, &opened);
+    if (seal_anew(relay, sender, datagram, &opened, &sealed) != 0 ||
+        open_packet(relay->keys[sender], &expected, &sealed, &again) != 0)
+        return *datagram;
+    append(&sealed, datagram->at + opened.used, datagram->length - (size_t)opened.used);
     record_initial(relay->record, relay->sealed, sender, &sealed, &again);
+    relay->sealed_anew[sender]++;
     return sealed;
 }
 
@@ -114,6 +114,16 @@ static int retry_between(struct relay *relay, struct peer *client, struct knock 
     return knock_again(client, knock, &header, &retry) && set_keys(relay, knock);
 }
 
+/* Whether ngtcp2 finds in the packet's header what the client was told, and would take it for a first Initial. */
+static int header_read(const struct knock *knock, const struct bytes *sealed)
+{
+    ngtcp2_pkt_hd header;
+    return ngtcp2_accept(&header, sealed->at, sealed->length) == 0 && header.version == knock->version &&
+           same(header.dcid.data, header.dcid.datalen, knock->destination.at, knock->destination.length) &&
+           same(header.scid.data, header.scid.datalen, knock->source.at, knock->source.length) &&
+           same(header.token.base, header.token.len, knock->token.at, knock->token.length);
+}
+
 /* ngtcp2's server gets no ClientHello from a damaged Initial, and reads it in the Initial itself. */
 static void check_server_reads(const struct knock *knock, const struct bytes *original, const struct bytes *sealed,
                                struct peer *server)
@@ -122,6 +132,7 @@ static void check_server_reads(const struct knock *knock, const struct bytes *or
     struct bytes copy = damaged(sealed, sealed->length - 1);
     unsigned before = peer_decrypted;
     int ready = answer_knock(&stranger, knock, original);
+    check(header_read(knock, sealed), "ngtcp2 reads version, IDs and token of the library's client Initial");
     if (ready)
         (void)peer_read(&stranger, copy.at, copy.length);
     check(ready && peer_decrypted == before && stranger.initial_crypto == 0,
@@ -145,9 +156,10 @@ static void check_run(struct relay *relay, const struct knock *knock, const stru
     check(taken && ngtcp2_conn_get_handshake_completed(client->connection) &&
               ngtcp2_conn_get_handshake_completed(server->connection),
           "ngtcp2's client and server complete their handshake");
-    check(relay->refused == 0 && relay->initials[CLIENT] >= 2 && relay->initials[SERVER] >= 1,
+    check(relay->sealed_anew[CLIENT] >= 2 && relay->sealed_anew[SERVER] >= 1 &&
+              relay->seen == relay->sealed_anew[CLIENT] + relay->sealed_anew[SERVER],
           "every Initial between them was opened and sealed anew: %u of the client, %u of the server",
-          relay->initials[CLIENT], relay->initials[SERVER]);
+          relay->sealed_anew[CLIENT], relay->sealed_anew[SERVER]);
 }
 
 /* A handshake between ngtcp2's client and server in which every Initial is opened and sealed by the library. */

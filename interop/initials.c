@@ -76,19 +76,22 @@ static int seal_answer(const struct knock *knock, uint64_t number, size_t number
     return keys_of(knock, SERVER, keys) && seal_packet(keys, &header, payload, datagram) == 0;
 }
 
-/* ngtcp2 decrypts what the library seals as a server. */
+/* ngtcp2 decrypts what the library seals as a server, under the greatest number that can be told at first. */
 static void check_answer_read(uint32_t version, size_t number_length)
 {
     static const uint8_t frames[] = {FRAME_PING, FRAME_PADDING, FRAME_PADDING, FRAME_PADDING};
     struct peer client;
     struct knock knock = knock_of(version, 8, 8, 0);
     struct bytes payload = bytes_of(ack_of_0, sizeof ack_of_0), datagram;
+    uint64_t number = (UINT64_C(1) << (8 * number_length - 1)) - 2;
     unsigned before = peer_decrypted;
     int ready;
     append(&payload, frames, sizeof frames);
-    ready = knock_first(&client, &knock) && seal_answer(&knock, 0, number_length, &payload, &datagram);
-    check(ready && peer_read(&client, datagram.at, datagram.length) == 0 && peer_decrypted == before + 1,
-          "ngtcp2's client decrypts the library's Initial with ACK and PING, number of %zu bytes", number_length);
+    ready = knock_first(&client, &knock) && seal_answer(&knock, number, number_length, &payload, &datagram);
+    check(ready && peer_read(&client, datagram.at, datagram.length) == 0 && peer_decrypted == before + 1 &&
+              peer_number_length == number_length,
+          "ngtcp2's client decrypts the library's Initial with ACK and PING, number %llu in %zu bytes",
+          (unsigned long long)number, number_length);
     peer_end(&client);
 }
 

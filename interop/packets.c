@@ -27,7 +27,7 @@ struct bytes pattern(uint8_t first, size_t length)
 
 int same(const void *one, size_t one_length, const void *other, size_t other_length)
 {
-    return one_length == other_length && memcmp(one, other, one_length) == 0;
+    return one_length == other_length && (one_length == 0 || memcmp(one, other, one_length) == 0);
 }
 
 int same_bytes(const struct bytes *one, const struct bytes *other)

@@ -11,6 +11,7 @@
 static const char priorities[] = "NORMAL:-VERS-ALL:+VERS-TLS1.3:%DISABLE_TLS13_COMPAT_MODE";
 
 unsigned peer_decrypted;
+size_t peer_number_length;
 int peer_clears_fixed_bit;
 
 /* A clock that goes on by a millisecond whenever it is read, so that no run depends on the machine's speed. */
@@ -45,15 +46,17 @@ static int another_id(ngtcp2_conn *connection, ngtcp2_cid *id, uint8_t *reset_to
     return 0;
 }
 
-/* ngtcp2's own decryption, counted where it succeeds. */
+/* ngtcp2's own decryption, counted where it succeeds; the plain header is the associated data. */
 static int counted_decrypt(uint8_t *plain, const ngtcp2_crypto_aead *aead, const ngtcp2_crypto_aead_ctx *key,
                            const uint8_t *protected, size_t length, const uint8_t *nonce, size_t nonce_length,
                            const uint8_t *associated, size_t associated_length)
 {
     int answer = ngtcp2_crypto_decrypt_cb(plain, aead, key, protected, length, nonce, nonce_length, associated,
                                           associated_length);
-    if (answer == 0)
+    if (answer == 0) {
         peer_decrypted++;
+        peer_number_length = 1 + (associated[0] & 0x03u);
+    }
     return answer;
 }
 

@@ -37,8 +37,12 @@ struct first_initial {
     const ngtcp2_cid *retry;    /* the Source Connection ID of the Retry, or NULL where there was none */
 };
 
-/* How many packets ngtcp2 has decrypted, tag and all, in every connection: its callback does not say in which. */
+/*
+ * How many packets ngtcp2 has decrypted, tag and all, and the number length of the last of them, which it found under the
+ * header protection. Of every connection: ngtcp2's callback does not say of which.
+ */
 extern unsigned peer_decrypted;
+extern size_t peer_number_length;
 
 /*
  * Whether a peer clears the fixed bit of its packets, as RFC 9287 lets it once the other has announced that it may.

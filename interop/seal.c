@@ -47,7 +47,7 @@ static struct bytes next_bytes(void)
     if (strcmp(word, "-") == 0)
         return made;
     for (; *word != '\0'; word += 2) {
-        unsigned value;
+        unsigned value = 0;
         uint8_t byte;
         if (strlen(word) < 2 || sscanf(word, "%2x", &value) != 1)
             stop("not hex");

@@ -88,8 +88,8 @@ class Initial:
 
     def after(self, retry):
         """The Initial that answers a Retry: the same frames, under its ID and with its token."""
-        unpadded = self.frames[:-1]
-        return self.but(keys_id=retry.source, number=1, destination=retry.source, token=retry.token, frames=unpadded).padded()
+        made = self.but(keys_id=retry.source, destination=retry.source, token=retry.token, number=1)
+        return made.but(frames=self.frames[:-1]).padded()
 
     def with_other_keys(self):
         return {
