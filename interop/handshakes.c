@@ -178,7 +178,7 @@ static void check_handshake(uint32_t version, const char *kind, int with_retry, 
     ready = ready && (!with_retry || retry_between(&relay, &client, &knock));
     ready = answer_knock(&server, &knock, &original) && ready;
     check(ready, "ngtcp2's client and server begin a handshake, the library between them%s",
-          with_retry ? ", which asks the client for a Retry first" : "");
+          with_retry ? ", which answers with a Retry first" : "");
     if (ready)
         check_run(&relay, &knock, &original, &client, &server);
     peer_end(&client);
