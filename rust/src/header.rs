@@ -15,32 +15,68 @@ pub struct Header<'d> {
 
 impl<'d> Header<'d> {
     /// The packet's version.
+    ///
+    /// ```
+    /// let datagram = [&b"\xc0\x00\x00\x00\x01\x04unit\x02me\x05token\x14"[..], &[0; 20]].concat();
+    /// assert_eq!(driftwicket::read_header(&datagram)?.version(), driftwicket::Version::ONE);
+    /// # Ok::<(), driftwicket::Refusal>(())
+    /// ```
     pub fn version(&self) -> Version {
         self.version
     }
 
     /// The Destination Connection ID. The keys of a client's first Initial are made from it.
+    ///
+    /// ```
+    /// let datagram = [&b"\xc0\x00\x00\x00\x01\x04unit\x02me\x05token\x14"[..], &[0; 20]].concat();
+    /// assert_eq!(driftwicket::read_header(&datagram)?.destination(), b"unit");
+    /// # Ok::<(), driftwicket::Refusal>(())
+    /// ```
     pub fn destination(&self) -> &'d [u8] {
         self.destination
     }
 
     /// The Source Connection ID.
+    ///
+    /// ```
+    /// let datagram = [&b"\xc0\x00\x00\x00\x01\x04unit\x02me\x05token\x14"[..], &[0; 20]].concat();
+    /// assert_eq!(driftwicket::read_header(&datagram)?.source(), b"me");
+    /// # Ok::<(), driftwicket::Refusal>(())
+    /// ```
     pub fn source(&self) -> &'d [u8] {
         self.source
     }
 
     /// The token; often empty.
+    ///
+    /// ```
+    /// let datagram = [&b"\xc0\x00\x00\x00\x01\x04unit\x02me\x05token\x14"[..], &[0; 20]].concat();
+    /// assert_eq!(driftwicket::read_header(&datagram)?.token(), b"token");
+    /// # Ok::<(), driftwicket::Refusal>(())
+    /// ```
     pub fn token(&self) -> &'d [u8] {
         self.token
     }
 
     /// Length: how many bytes number, payload and tag take together.
+    ///
+    /// ```
+    /// let datagram = [&b"\xc0\x00\x00\x00\x01\x04unit\x02me\x05token\x14"[..], &[0; 20]].concat();
+    /// assert_eq!(driftwicket::read_header(&datagram)?.length(), 20);
+    /// # Ok::<(), driftwicket::Refusal>(())
+    /// ```
     pub fn length(&self) -> u64 {
         self.length
     }
 
     /// Where in the datagram the number starts, which is masked still. The packet ends [`length`](Header::length) bytes
     /// behind this place.
+    ///
+    /// ```
+    /// let datagram = [&b"\xc0\x00\x00\x00\x01\x04unit\x02me\x05token\x14"[..], &[0; 20]].concat();
+    /// assert_eq!(driftwicket::read_header(&datagram)?.number_place(), 20);
+    /// # Ok::<(), driftwicket::Refusal>(())
+    /// ```
     pub fn number_place(&self) -> usize {
         self.number_place
     }

@@ -5,7 +5,7 @@ use crate::{ffi, Refusal};
 /// A full packet number, from 0 to 2^62 − 1.
 ///
 /// A full number is never taken where a short one is meant:
-/// ```compile_fail
+/// ```compile_fail,E0308
 /// driftwicket::recover(0, driftwicket::FullPn(7), 1);
 /// ```
 #[derive(Clone, Copy, Debug, PartialEq, Eq, PartialOrd, Ord, Hash)]
@@ -14,7 +14,7 @@ pub struct FullPn(pub u64);
 /// The last one to four bytes of a packet number, which are what a packet carries of it.
 ///
 /// A short number is never taken where a full one is meant:
-/// ```compile_fail
+/// ```compile_fail,E0308
 /// driftwicket::shorten(driftwicket::TruncatedPn(7), None, 1);
 /// ```
 #[derive(Clone, Copy, Debug, PartialEq, Eq, Hash)]

@@ -61,21 +61,69 @@ pub struct Checked<'d> {
 
 impl<'d> Checked<'d> {
     /// The packet's version.
+    ///
+    /// ```
+    /// use driftwicket::retry::{self, Retry};
+    /// use driftwicket::Version;
+    ///
+    /// let (version, original) = (Version::ONE, b"original");
+    /// let packet = Retry { version, original, destination: b"unit", source: b"me", token: b"token", low_bits: 0 };
+    /// let mut out = [0; 60];
+    /// let datagram = retry::write(&packet, &mut out)?;
+    /// assert_eq!(retry::check(original, datagram)?.version(), Version::ONE);
+    /// # Ok::<(), driftwicket::Refusal>(())
+    /// ```
     pub fn version(&self) -> Version {
         self.version
     }
 
     /// The Destination Connection ID.
+    ///
+    /// ```
+    /// use driftwicket::retry::{self, Retry};
+    /// use driftwicket::Version;
+    ///
+    /// let (version, original) = (Version::ONE, b"original");
+    /// let packet = Retry { version, original, destination: b"unit", source: b"me", token: b"token", low_bits: 0 };
+    /// let mut out = [0; 60];
+    /// let datagram = retry::write(&packet, &mut out)?;
+    /// assert_eq!(retry::check(original, datagram)?.destination(), b"unit");
+    /// # Ok::<(), driftwicket::Refusal>(())
+    /// ```
     pub fn destination(&self) -> &'d [u8] {
         self.destination
     }
 
     /// The Source Connection ID. The keys of the client's next Initial are made from it.
+    ///
+    /// ```
+    /// use driftwicket::retry::{self, Retry};
+    /// use driftwicket::Version;
+    ///
+    /// let (version, original) = (Version::ONE, b"original");
+    /// let packet = Retry { version, original, destination: b"unit", source: b"me", token: b"token", low_bits: 0 };
+    /// let mut out = [0; 60];
+    /// let datagram = retry::write(&packet, &mut out)?;
+    /// assert_eq!(retry::check(original, datagram)?.source(), b"me");
+    /// # Ok::<(), driftwicket::Refusal>(())
+    /// ```
     pub fn source(&self) -> &'d [u8] {
         self.source
     }
 
     /// The token, which the client's next Initial carries.
+    ///
+    /// ```
+    /// use driftwicket::retry::{self, Retry};
+    /// use driftwicket::Version;
+    ///
+    /// let (version, original) = (Version::ONE, b"original");
+    /// let packet = Retry { version, original, destination: b"unit", source: b"me", token: b"token", low_bits: 0 };
+    /// let mut out = [0; 60];
+    /// let datagram = retry::write(&packet, &mut out)?;
+    /// assert_eq!(retry::check(original, datagram)?.token(), b"token");
+    /// # Ok::<(), driftwicket::Refusal>(())
+    /// ```
     pub fn token(&self) -> &'d [u8] {
         self.token
     }
