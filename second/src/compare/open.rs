@@ -3,7 +3,7 @@
 use super::arrival::{opening_faults, Arrival};
 use super::damage::{self, Sealed};
 use super::draft::{expected_for, Draft};
-use super::faults::{put_in, small_sets};
+use super::faults::{each_set, small_sets};
 use super::receiver;
 use super::sample::{self, near, MILLION, VERSIONS};
 use super::{Call, Entry, Hex, Tally};
@@ -212,13 +212,12 @@ fn windows(tally: &mut Tally, random: &mut Random) {
 
 fn fault_sets(tally: &mut Tally, random: &mut Random) {
     let faults = opening_faults();
-    for set in small_sets(faults.len(), 32, random) {
-        let mut arrival = Arrival::valid(random);
-        let known = put_in(&faults, &set, &mut arrival, random);
+    let sets = small_sets(faults.len(), 32, random);
+    each_set(&faults, sets, random, Arrival::valid, |arrival, known, random| {
         let (datagram, output) = (arrival.datagram(random), arrival.output(random));
         let call = Open { keys: &arrival.record, expected: arrival.expected, datagram: &datagram, output: &output };
         tally.compare_knowing(&call, known);
-    }
+    });
 }
 
 /// Every bit of the key record matters.
