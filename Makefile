@@ -4,7 +4,7 @@
 .NOTPARALLEL:
 
 # Nothing is taken from a network, and little is said.
-CARGO = cargo --quiet --offline --locked
+cargo = cargo --quiet --offline --locked
 
 # How often the second program does everything: `make second TIMES=100` for many more comparisons.
 TIMES = 4
@@ -28,13 +28,13 @@ second rust: export DRIFTWICKET_LIB_DIR = $(CURDIR)/target/staticlib
 # The second program: its own rules by the papers' vectors, and then every entry point of the library by its rules.
 second: lib
 	@echo "Testing the second program's own rules ..."
-	@cd second && $(CARGO) test --lib --target-dir ../target/second
-	@cd second && $(CARGO) run --release --target-dir ../target/second -- $(TIMES)
+	@cd second && $(cargo) test --lib --target-dir ../target/second
+	@cd second && $(cargo) run --release --target-dir ../target/second -- $(TIMES)
 
 # The library from Rust: its tests and the examples of its documents.
 rust: lib
 	@echo "Testing the library from Rust ..."
-	@cd rust && $(CARGO) test --target-dir ../target/rust
+	@cd rust && $(cargo) test --target-dir ../target/rust
 
 layout:
 	@echo "Checking the layout ..."

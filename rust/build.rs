@@ -72,7 +72,9 @@ fn made(root: &Path) -> Result<PathBuf, Box<dyn Error>> {
             .into());
         }
     }
-    let run = Command::new("make").arg("-C").arg(root).arg("lib").output()?;
+    // cargo's own search path for shared libraries isn't for the kit's programs
+    let arguments = ["--no-print-directory", "lib", "-C"];
+    let run = Command::new("make").args(arguments).arg(root).env_remove("LD_LIBRARY_PATH").output()?;
     if !run.status.success() {
         let [said, errors] = [run.stdout, run.stderr].map(|bytes| String::from_utf8_lossy(&bytes).into_owned());
         return Err(format!("`make lib` failed in {}:\n{said}{errors}", root.display()).into());
