@@ -9,7 +9,7 @@ pub struct Header<'d> {
     destination: &'d [u8],
     source: &'d [u8],
     token: &'d [u8],
-    length: u64,
+    length: usize,
     number_place: usize,
 }
 
@@ -65,7 +65,7 @@ impl<'d> Header<'d> {
     /// assert_eq!(driftwicket::read_header(&datagram)?.length(), 20);
     /// # Ok::<(), driftwicket::Refusal>(())
     /// ```
-    pub fn length(&self) -> u64 {
+    pub fn length(&self) -> usize {
         self.length
     }
 
@@ -108,6 +108,6 @@ impl<'d> Header<'d> {
 pub fn read_header(datagram: &[u8]) -> Result<Header<'_>, Refusal> {
     let [version, parts @ .., length, number_place] = ffi::read_header(datagram)?;
     let [destination, source, token] = ffi::parts(datagram, parts);
-    let number_place = ffi::count(number_place);
+    let [length, number_place] = [length, number_place].map(ffi::count);
     Ok(Header { version: ffi::version(version), destination, source, token, length, number_place })
 }

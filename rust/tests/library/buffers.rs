@@ -21,7 +21,7 @@ fn header_parts_are_the_datagrams() {
     assert_eq!((header.source(), place(header.source(), &datagram)), (packet.source, 18..24));
     assert_eq!((header.token(), place(header.token(), &datagram)), (packet.token, 25..32));
     assert_eq!(header.number_place(), 34);
-    assert_eq!(header.length(), (datagram.len() - 34) as u64);
+    assert_eq!(header.length(), datagram.len() - 34);
 }
 
 #[test]

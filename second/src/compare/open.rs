@@ -104,7 +104,9 @@ fn rooms(tally: &mut Tally, random: &mut Random) {
         let sealed = good(random, version);
         let expected = expected_of(random, &sealed);
         let needed = sealed.packet.len() - 16;
-        for room in [0, 1, needed - 16, needed - 2, needed - 1, needed, needed + 1, needed + 15, needed + 16, 1_600] {
+        // the smallest packets have fewer bytes before their tag than it has
+        let less_a_tag = needed.saturating_sub(16);
+        for room in [0, 1, less_a_tag, needed - 2, needed - 1, needed, needed + 1, needed + 15, needed + 16, 1_600] {
             let output = random.bytes(room);
             let call = Open { keys: &sealed.record, expected, datagram: &sealed.packet, output: &output };
             tally.compare_knowing(&call, if room < needed { 8 } else { 0 });
