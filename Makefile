@@ -17,9 +17,10 @@ demo:
 	@echo "Proved. The program wrote, as the papers have it:"
 	@cut -c 1-110 crates/vectors/stdout
 
-# target/staticlib/libdriftwicket.a, for this machine.
+# The static library for C and for Rust: target/staticlib/libdriftwicket.a, for the machine at hand. Its header is
+# include/driftwicket.h.
 lib:
-	@echo "Proving the library and building it for this machine ..."
+	@echo "Proving the library for C and compiling it (some minutes the first time) ..."
 	@tools/library
 
 # What stands beside the library links the archive just built, and none that is named from outside.

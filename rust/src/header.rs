@@ -10,7 +10,7 @@ pub struct Header<'d> {
     source: &'d [u8],
     token: &'d [u8],
     length: usize,
-    number_place: usize,
+    number_at: usize,
 }
 
 impl<'d> Header<'d> {
@@ -74,11 +74,11 @@ impl<'d> Header<'d> {
     ///
     /// ```
     /// let datagram = [&b"\xc0\x00\x00\x00\x01\x04unit\x02me\x05token\x14"[..], &[0; 20]].concat();
-    /// assert_eq!(driftwicket::read_header(&datagram)?.number_place(), 20);
+    /// assert_eq!(driftwicket::read_header(&datagram)?.number_at(), 20);
     /// # Ok::<(), driftwicket::Refusal>(())
     /// ```
-    pub fn number_place(&self) -> usize {
-        self.number_place
+    pub fn number_at(&self) -> usize {
+        self.number_at
     }
 }
 
@@ -99,15 +99,15 @@ impl<'d> Header<'d> {
 /// assert_eq!(header.destination(), 0x8394c8f03e515708_u64.to_be_bytes());
 /// assert_eq!(header.source(), b"");
 /// assert_eq!(header.token(), b"");
-/// assert_eq!(header.number_place(), 18);
+/// assert_eq!(header.number_at(), 18);
 /// assert_eq!(header.length(), 1_182);
 ///
 /// assert_eq!(read_header(&datagram[..1_199]), Err(Refusal::NotWhole));
 /// # Ok::<(), Refusal>(())
 /// ```
 pub fn read_header(datagram: &[u8]) -> Result<Header<'_>, Refusal> {
-    let [version, parts @ .., length, number_place] = ffi::read_header(datagram)?;
+    let [version, parts @ .., length, number_at] = ffi::read_header(datagram)?;
     let [destination, source, token] = ffi::parts(datagram, parts);
-    let [length, number_place] = [length, number_place].map(ffi::count);
-    Ok(Header { version: ffi::version(version), destination, source, token, length, number_place })
+    let [length, number_at] = [length, number_at].map(ffi::count);
+    Ok(Header { version: ffi::version(version), destination, source, token, length, number_at })
 }

@@ -68,7 +68,7 @@ impl Keys {
     /// ```
     /// use driftwicket::{Keys, Side, Version};
     ///
-    /// let keys = Keys::initial(Version::TWO_DRAFT, b"an ID", Side::Server)?;
+    /// let keys = Keys::initial(Version::DRAFT_2, b"an ID", Side::Server)?;
     /// let kept = *keys.as_bytes();
     /// assert_eq!(Keys::from_bytes(kept).as_bytes(), keys.as_bytes());
     /// # Ok::<(), driftwicket::Refusal>(())
@@ -82,8 +82,8 @@ impl Keys {
     /// ```
     /// use driftwicket::{Keys, Side, Version};
     ///
-    /// let keys = Keys::initial(Version::TWO_DRAFT, b"an ID", Side::Client)?;
-    /// assert_eq!(keys.version(), Version::TWO_DRAFT);
+    /// let keys = Keys::initial(Version::DRAFT_2, b"an ID", Side::Client)?;
+    /// assert_eq!(keys.version(), Version::DRAFT_2);
     /// # Ok::<(), driftwicket::Refusal>(())
     /// ```
     pub fn version(&self) -> Version {

@@ -7,38 +7,38 @@
 //!
 //! # A first use
 //! ```
-//! use driftwicket::{seal, FullPn, Initial, Keys, Receiver, Refusal, Side, Version, LIMIT};
+//! use driftwicket::{read_header, seal, FullPn, Initial, Keys, Receiver, Refusal, Side, Version, LIMIT};
 //!
 //! fn main() -> Result<(), Refusal> {
-//!     // both ends make the client's keys from the connection ID that the client chose for the server
+//!     // a unit, which is the client, makes its keys from the connection ID that it chose, and seals a packet
 //!     let id = [0x83, 0x94, 0xc8, 0xf0, 0x3e, 0x51, 0x57, 0x08];
 //!     let keys = Keys::initial(Version::ONE, &id, Side::Client)?;
-//!
-//!     // the unit seals a packet
 //!     let packet = Initial {
-//!         number: FullPn(7),
+//!         number: FullPn(2),
 //!         acknowledged: None,
 //!         number_length: 1,
 //!         destination: &id,
 //!         source: b"unit",
 //!         token: b"",
-//!         payload: b"all is well",
+//!         payload: b"hello, archive",
 //!     };
 //!     let mut out = [0; LIMIT];
 //!     let datagram = seal(&keys, &packet, &mut out)?;
 //!
-//!     // the archive opens it
+//!     // the archive finds that ID in the header, makes the same keys from it, and opens the packet
+//!     let header = read_header(datagram)?;
+//!     let keys = Keys::initial(header.version(), header.destination(), Side::Client)?;
 //!     let mut receiver = Receiver::new(keys);
 //!     let mut plain = [0; LIMIT];
 //!     let opened = receiver.open(datagram, &mut plain)?;
-//!     assert_eq!(opened.number, FullPn(7));
-//!     assert_eq!(opened.payload, b"all is well");
-//!     assert_eq!(receiver.expected(), 8);
+//!     assert_eq!(opened.number, FullPn(2));
+//!     assert_eq!(opened.payload, b"hello, archive");
+//!     assert_eq!(receiver.expected(), 3);
 //!
-//!     // and rubbish changes nothing
+//!     // rubbish is refused, and changes nothing
 //!     let refusal = receiver.open(b"rubbish", &mut plain).unwrap_err();
 //!     assert_eq!(refusal.to_string(), "refusal 2: the form bit or the fixed bit is clear");
-//!     assert_eq!(receiver.expected(), 8);
+//!     assert_eq!(receiver.expected(), 3);
 //!     Ok(())
 //! }
 //! ```

@@ -27,7 +27,7 @@ pub struct Opened<'o> {
 /// ```
 /// use driftwicket::{open, seal, FullPn, Initial, Keys, Refusal, Side, Version, LIMIT};
 ///
-/// let keys = Keys::initial(Version::TWO_DRAFT, b"server", Side::Client)?;
+/// let keys = Keys::initial(Version::DRAFT_2, b"server", Side::Client)?;
 /// let packet = Initial {
 ///     number: FullPn(3),
 ///     acknowledged: None,
@@ -50,7 +50,7 @@ pub struct Opened<'o> {
 /// assert_eq!(opened.used, datagram.len());
 /// assert_eq!(expected, 4);
 ///
-/// let others = Keys::initial(Version::TWO_DRAFT, b"server", Side::Server)?;
+/// let others = Keys::initial(Version::DRAFT_2, b"server", Side::Server)?;
 /// assert!(open(&others, &mut expected, datagram, &mut out).is_err());
 /// assert_eq!(expected, 4);
 /// # Ok::<(), Refusal>(())

@@ -7,7 +7,7 @@ use std::fmt::{self, Debug, Display, Formatter};
 /// ```
 /// use driftwicket::{Keys, Refusal, Side, Version};
 ///
-/// assert_eq!(Version::TWO_DRAFT.to_string(), "0x709a50c4");
+/// assert_eq!(Version::DRAFT_2.to_string(), "0x709a50c4");
 /// assert_eq!(Keys::initial(Version(5), b"", Side::Client).unwrap_err(), Refusal::Version);
 /// ```
 ///
@@ -20,7 +20,7 @@ impl Version {
     pub const ONE: Version = Version(0x0000_0001);
 
     /// The version 2 draft.
-    pub const TWO_DRAFT: Version = Version(0x709a_50c4);
+    pub const DRAFT_2: Version = Version(0x709a_50c4);
 }
 
 impl Display for Version {

@@ -20,14 +20,14 @@ fn header_parts_are_the_datagrams() {
     assert_eq!((header.destination(), place(header.destination(), &datagram)), (packet.destination, 6..17));
     assert_eq!((header.source(), place(header.source(), &datagram)), (packet.source, 18..24));
     assert_eq!((header.token(), place(header.token(), &datagram)), (packet.token, 25..32));
-    assert_eq!(header.number_place(), 34);
+    assert_eq!(header.number_at(), 34);
     assert_eq!(header.length(), datagram.len() - 34);
 }
 
 #[test]
 fn retry_parts_are_the_datagrams() {
     let packet = Retry {
-        version: Version::TWO_DRAFT,
+        version: Version::DRAFT_2,
         original: &ID,
         destination: b"destination",
         source: b"source",
@@ -100,6 +100,6 @@ fn bytes_behind_a_packet_are_not_used() {
 fn debug_tells_no_secret() {
     let record = std::array::from_fn(|place| if place < 4 { 0 } else { SENTINEL });
     assert_eq!(format!("{:?}", Keys::from_bytes(record)), "Keys { version: Version(0x00000000), .. }");
-    let keys = Keys::initial(Version::TWO_DRAFT, &ID, Side::Server).unwrap();
+    let keys = Keys::initial(Version::DRAFT_2, &ID, Side::Server).unwrap();
     assert_eq!(format!("{keys:#?}"), "Keys {\n    version: Version(0x709a50c4),\n    ..\n}");
 }

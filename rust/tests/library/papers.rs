@@ -28,7 +28,7 @@ const PAPERS: [Paper; 2] = [
         retry: include_str!("vectors/rfc9001-retry.hex"),
     },
     Paper {
-        version: Version::TWO_DRAFT,
+        version: Version::DRAFT_2,
         client_keys: "95df2be2e8d549c82e996fc9339f4563 ea5e3c95f933db14b7020ad8 091efb735702447d07908f6501845794",
         server_keys: "15d5b4d9a2b8916aa39b1bfe574d2aad a85e7ac31cd275cbb095c626 b13861cfadbb9d11ff942dd80c8fc33b",
         client_packet: include_str!("vectors/document003-client.hex"),

@@ -111,7 +111,7 @@ fn of_opening() {
         assert_eq!((out, after), ([SENTINEL; LIMIT], expected));
     }
     assert_eq!(open(&client_keys(), &mut 0, &good, &mut []), Err(Refusal::Room));
-    let others = Keys::initial(Version::TWO_DRAFT, &ID, Side::Client).unwrap();
+    let others = Keys::initial(Version::DRAFT_2, &ID, Side::Client).unwrap();
     assert_eq!(open(&others, &mut 0, &good, &mut []), Err(Refusal::Version));
     let unknown = Keys::from_bytes([0; Keys::LENGTH]);
     assert_eq!(open(&unknown, &mut 0, &[], &mut []), Err(Refusal::Version));
