@@ -85,6 +85,7 @@ impl Gap {
         let acknowledged = sample::number(random) % (NUMBER_LIMIT - gap);
         Gap::above(random, acknowledged, acknowledged + gap)
     }
+
     /// One of at least 128, and a length that doesn't cover it: 12.
     pub fn with_short_length(random: &mut Random) -> (Gap, usize) {
         let length = random.between(1..=3);
