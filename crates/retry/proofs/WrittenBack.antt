@@ -8,7 +8,7 @@ use lib.ListN.{length, take, drop, length-append}
 use lib.Seq.{take-at, drop-at}
 use Rattle.octets.specs.Outcome.{given}
 use Rattle.wire.specs.Versions.{version}
-use Rattle.wire.specs.Header.{behind, long}
+use Rattle.wire.specs.Header.{long}
 use Rattle.wire.specs.HeaderAnswers.{handed}
 use Rattle.wire.specs.Written.{longFirst, longFields}
 use Rattle.wire.proofs.Versions.{retry-fits}

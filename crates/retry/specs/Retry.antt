@@ -1,5 +1,5 @@
 -- Retry packets: RFC 9000 section 17.2.5 and RFC 9001 section 5.8, with document 01's order of refusals.
-use Prim.Native.Nat.{ℕ, _+_, _-_, _%_}
+use Prim.Native.Nat.{ℕ, _-_, _%_}
 use mathlib.Core.List.{List, [], _∷_, _++_}
 use mathlib.Core.Bool.{true}
 use lib.Dec.{leb}
