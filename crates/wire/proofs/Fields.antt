@@ -1,14 +1,15 @@
 -- Sections 16 and 17.2: what reading one field comes to, by what the tests show; and where a field that is found stands.
-use Prim.Native.Nat.{ℕ, zero, suc, _+_, _-_, _/_, _^_, _≤_, _<_}
+use Prim.Native.Nat.{ℕ, _+_, _/_, _^_, _≤_, _<_}
 use mathlib.Core.Path.{_≡_, sym, ap}
-use mathlib.Core.List.{List, [], _∷_}
+use mathlib.Core.List.{List}
 use native.Mathlib.Omega.{arith}
-use lib.Dec.{leb, lit<}
-use lib.ListN.{length, getD, take, drop, length-drop}
-use lib.Seq.{take-all, length-take-le, getD-drop}
+use lib.Dec.{leb}
+use lib.ListN.{length, getD, drop, length-drop}
 use borrow.Author.Tests.{le-leb, lt-leb, leb-true}
 use Rattle.octets.specs.Outcome.{refused, given}
 use Rattle.octets.specs.Octets.{Bytes, number, part}
+use Rattle.octets.proofs.Parts.{part-length}
+use Rattle.octets.proofs.Bytes.{part-bytes}
 use Rattle.octets.proofs.Numbers.{number-lt}
 use Rattle.octets.proofs.Outcome.{passed, stepped, given-same}
 use Rattle.wire.specs.Integer.{Integer, integer}
@@ -28,24 +29,12 @@ integer-taken s is =
     let same = ap (λ (i : Integer). i .taken) (given-same (all .1)) in
     omega (arith, leb-true (2 ^ (getD s 0 0 / 64)) (length s) (all .0))
 
--- the first of some bytes are bytes
-take-bytes : (n : ℕ) (s : List ℕ) → Bytes s → Bytes (take n s)
-take-bytes zero s h i = lit< tt
-take-bytes (suc n) [] h i = lit< tt
-take-bytes (suc n) (x ∷ s) h zero = h 0
-take-bytes (suc n) (x ∷ s) h (suc i) = take-bytes n s (λ j. h (suc j)) i
-
 -- what four bytes spell fits a word of 32 bits
 pub four-bytes : (d : List ℕ) (at : ℕ) → Bytes d → at + 4 ≤ length d → number (part d at 4) < 2 ^ 32
 four-bytes d at h fits =
-    let four = length-take-le 4 (drop at d) (omega (arith, length-drop at d)) in
-    rw four at (number-lt (part d at 4) (take-bytes 4 (drop at d) (λ i. rw (getD-drop at d i 0) (h (at + i)))))
+    rw (part-length d at 4 fits) at (number-lt (part d at 4) (part-bytes d at 4 h))
 
 module _ (d : List ℕ) (at : ℕ) where
-  -- the part from a place to the end
-  pub to-end : part d at (length d - at) ≡ drop at d
-  to-end = take-all (length d - at) (drop at d) (omega (arith, length-drop at d))
-
   -- ---- a length byte and as many bytes
   pub id-none : length d ≤ at → idAt d at ≡ refused 3
   unfolding idAt
