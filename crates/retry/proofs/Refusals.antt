@@ -10,11 +10,10 @@ use borrow.Author.Tests.{le-leb, lt-leb, leb-true}
 use Rattle.octets.specs.Outcome.{refused, given}
 use Rattle.octets.proofs.Outcome.{passed, stepped, given-same}
 use Rattle.wire.specs.Versions.{known}
-use Rattle.wire.specs.Header.{Place, Long, behind, limit, longestId, long}
+use Rattle.wire.specs.Header.{Place, Long, behind, limit, longestId, long, tagLength}
 use Rattle.wire.proofs.Fields.{Within}
 use Rattle.wire.proofs.Headers.{long-there}
 use Rattle.octets.specs.Octets.{same}
-use Rattle.packets.specs.Packet.{tagLength}
 use Rattle.retry.specs.Retry.{RetryFields, untagged, retryTag, tagged, retryWritten, tokenAt, retryChecked}
 use Rattle.retry.specs.Answers.{sizeOf}
 use Rattle.retry.proofs.Packets.{retry-length}

@@ -6,11 +6,10 @@ use lib.Dec.{leb}
 use lib.ListN.{length, take, drop}
 use Rattle.octets.specs.Outcome.{Outcome, given, unless, _>>=_, _>>_}
 use Rattle.wire.specs.Versions.{known, version}
-use Rattle.wire.specs.Header.{Place, behind, limit, longestId, whole, long}
+use Rattle.wire.specs.Header.{Place, behind, limit, longestId, whole, long, tagLength}
 use Rattle.wire.specs.Written.{longFirst, withLength, longFields}
 use Rattle.gcm.specs.Gcm.{tag}
 use Rattle.octets.specs.Octets.{same}
-use Rattle.packets.specs.Packet.{tagLength}
 
 -- ---- RFC 9000 section 17.2.5: the packet up to its tag
 -- the first byte's low four bits are unused: the writer takes them from a number, by its remainder by 16

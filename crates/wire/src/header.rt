@@ -19,6 +19,9 @@ pub const LIMIT: usize = 1500;
 // The longest connection ID.
 pub const LONGEST_ID: usize = 20;
 
+// RFC 9001 section 5.3: the tag's length.
+pub const TAG_LENGTH: usize = 16;
+
 // The smallest Length: a number and payload that reach the sample's end.
 const LEAST_LENGTH: usize = 20;
 
