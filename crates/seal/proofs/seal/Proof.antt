@@ -105,7 +105,7 @@ returns-10 c =
     let ours = sym (c .before .before .before .before .before .before .before .before .before .before .before .before .before .before .before .before .is-known .ensures) ∙ not-false _ (c .before .before .before .before .before .before .before .before .before .before .before .before .before .before .before .if1 .left) in
     let short = sym (ap shortenedAnswer (c .before .before .before .before .before .before .before .before .before .before .before .before .enum-told .given .1)) ∙ c .before .before .before .before .before .before .before .before .before .before .before .before .before .before .shorten .ensures .answer in
     let counted = c .before .before .before .before .before .before .size-of .ensures in
-    written _ _ _ _ ours short (omega arith) (omega arith) (omega arith) (omega arith) (omega arith) counted (c .before .before .write-packet .ensures)
+    written _ _ _ _ ours short (omega arith) (omega arith) (omega arith) (omega arith) (omega arith) (omega arith) (c .before .before .write-packet .ensures)
 
 pub seal-spec : {M : Type 1} → statement M
 seal-spec =
