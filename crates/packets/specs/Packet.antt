@@ -24,6 +24,7 @@ module _ (suite : Suite) where
       let cipher = suite .stream key once payload in
       cipher ++ suite .tag key once header cipher
 
+  -- over the packet's plain header
   unfoldable pub bodyOf : Keys → Plain → List ℕ
   bodyOf k p = bodyWith (k .key) (nonce (k .iv) (p .packetNumber)) (plainHeader (k .version) p) (p .payload)
 
