@@ -6,12 +6,14 @@ use native.Mathlib.Omega.{arith}
 use lib.ListN.{length, take, drop, length-drop, drop-of-length-le}
 use lib.Seq.{take-all}
 use Rattle.octets.specs.Octets.{bytes, number, xor, laid}
+use Rattle.octets.proofs.Parts.{part-length}
 use Rattle.octets.proofs.Numbers.{bytes-length}
-use Rattle.octets.proofs.Xor.{xor-length}
+use Rattle.octets.proofs.Xor.{xor-length, xor-append}
+use Rattle.octets.proofs.Buffers.{laid-more, laid-none, laid-rest, laid-two}
 use Rattle.aes128.specs.Cipher.{encrypted}
 use Rattle.aes128.proofs.Laws.{encrypted-length}
 use Rattle.gcm.specs.Gcm.{inc32, keyStream, gctr, j0}
-use Rattle.gcm.proofs.Lists.{bytes-wrapped, xor-append, laid-two, laid-rest, laid-append, laid-none, part-length, block-take, block-drop}
+use Rattle.gcm.proofs.Lists.{bytes-wrapped, block-take, block-drop}
 
 -- ---- the counter blocks
 pub first-block : (d b b′ nonce : List ℕ) → length d ≡ 16 → length nonce ≡ 12 → b ≡ laid d 0 nonce → b′ ≡ laid b 12 (bytes 4 1) → b′ ≡ j0 nonce
@@ -55,10 +57,10 @@ module _ (schedule counter source d d′ : List ℕ) (at i end : ℕ) (fits : at
       let piece : List ℕ = xor (take (end - i) t) mask in
       let rest : List ℕ = gctr schedule (inc32 counter) (drop end source) in
       let left : length t ≡ length source - i = length-drop i source in
-      let size : length piece ≡ end - i = xor-length (take (end - i) t) mask ∙ part-length source i end (omega arith) inside in
+      let size : length piece ≡ end - i = xor-length (take (end - i) t) mask ∙ part-length source i (end - i) (omega arith) in
       let place : at + end ≡ at + i + length piece = omega arith in
-      ap₂ (λ (b : List ℕ) (n : ℕ). laid b n rest) e place
-      ∙ laid-append d (at + i) piece rest (omega arith)
+      ap (λ (b : List ℕ). laid b (at + end) rest) e
+      ∙ laid-more d (at + i) piece rest (at + end) (omega arith) place
       ∙ ap (laid d (at + i))
       (ap₂ (λ (p q : List ℕ). xor p mask ++ gctr schedule (inc32 counter) q) (block-take source i end (omega arith) inside most short)
       (block-drop source i end (omega arith) inside most short)

@@ -1,13 +1,13 @@
 -- RFC 5869 section 2.3 and RFC 8446 section 7.1: the texts of the expansion, as they are laid down, and its first block.
 use Prim.Native.Nat.{ℕ, zero, suc, _+_, _/_, _≤_}
-use mathlib.Core.List.{List, [], _∷_, _++_, append-nil}
+use mathlib.Core.List.{List, [], _∷_, _++_}
 use mathlib.Core.Path.{_≡_, refl, sym, ap, _∙_}
 use native.Mathlib.Omega.{arith}
-use lib.ListN.{length, take, drop, length-append, drop-of-length-le}
-use lib.Seq.{take-at, length-take-le}
+use lib.ListN.{length, take, length-append}
+use lib.Seq.{length-take-le}
 use Rattle.octets.specs.Octets.{bytes, laid, begun}
 use Rattle.octets.proofs.Numbers.{bytes-length}
-use Rattle.octets.proofs.Buffers.{begun-more}
+use Rattle.octets.proofs.Buffers.{laid-all, begun-more}
 use Rattle.octets.specs.Text.{ascii}
 use Rattle.hkdf.specs.Hkdf.{hmac, T, Ts, expand, tls13, info, expandLabel}
 
@@ -17,10 +17,6 @@ pub text-written : (d text : List ℕ) → laid (laid d 0 text) (length text) (b
 unfolding bytes
 text-written d text =
     ap (λ (x : List ℕ). laid x (length text) (1 ∷ [])) (begun-more [] text d 0 refl) ∙ begun-more text (1 ∷ []) d (length text) refl
-
--- what was put at a buffer's start is its first part
-pub begun-front : (s d : List ℕ) (n : ℕ) → length s ≡ n → take n (begun s d) ≡ s
-begun-front s d n e = take-at s (drop (length s) d) n e
 
 pub first-block : (prk text : List ℕ) → hmac prk (text ++ (1 ∷ [])) ≡ T prk text 1
 unfolding T
@@ -74,8 +70,4 @@ unfolding expandLabel
 expand-label-is out secret label block short long e =
     let L : ℕ = length out in
     let size : length (take L block) ≡ L = length-take-le L block (omega arith) in
-    let past : L ≤ 0 + length (take L block) = omega arith in
-    ap (λ (x : List ℕ). take L block ++ x) (drop-of-length-le out past)
-    ∙ append-nil (take L block)
-    ∙ ap (take L) e
-    ∙ expand-short secret (info label L) L short
+    laid-all out (take L block) (sym size) ∙ ap (take L) e ∙ expand-short secret (info label L) L short

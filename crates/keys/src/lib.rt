@@ -1,6 +1,7 @@
 // RFC 9001 section 5.2: the keys of Initial packets, from the client's Destination Connection ID.
 use octets::refusal;
 use packets::Keys;
+use wire::header::LONGEST_ID;
 use wire::version;
 ghost use mathlib.Core.Path.{_≡_};
 ghost use Prim.Native.Nat.{_≤_};
@@ -11,9 +12,6 @@ ghost use Rattle.wire.specs.Header.{longestId};
 ghost use Rattle.packets.specs.KeyRecord.{keysOf};
 ghost use Rattle.keys.specs.InitialKeys.{sideSecret, keysFrom};
 ghost use Rattle.keys.specs.Answers.{labelOf, sideOf, blankKeys, InitialKeysMade};
-
-// The longest connection ID.
-const LONGEST_ID: usize = 20;
 
 // Whose packets the keys protect.
 pub enum Side {

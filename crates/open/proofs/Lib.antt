@@ -1,4 +1,3 @@
-pub mod Spelling
 pub mod Masking
 pub mod Judging
 pub mod Pieces

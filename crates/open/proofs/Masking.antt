@@ -1,30 +1,34 @@
--- The mask taken from the first byte and the number.
+-- The mask taken from the first byte and the number, and what the number's bytes spell.
 use Prim.Native.Nat.{ℕ, _+_, _%_, _≤_}
 use mathlib.Core.Path.{_≡_, sym, ap, _∙_}
 use mathlib.Core.List.{List}
-use native.Mathlib.Omega.{arith}
-use lib.ListN.{length, getD, take, drop, length-drop}
-use lib.Seq.{take-all, take-at}
-use Rattle.octets.specs.Octets.{bytes, part, xor, laid}
+use lib.ListN.{length, getD, take, drop}
+use Rattle.octets.specs.Octets.{Bytes, bytes, number, part, xor, laid}
+use Rattle.octets.proofs.Parts.{part-length}
+use Rattle.octets.proofs.Numbers.{number-below, bytes-back}
 use Rattle.octets.proofs.Xor.{xor-length}
+use Rattle.octets.proofs.Buffers.{front-laid}
 use Rattle.packets.specs.Protection.{Keys, onFirst, onNumber}
 use Rattle.packets.specs.Packet.{maskOf}
 use Rattle.packets.specs.Parts.{Unmasked}
 use Rattle.packets.specs.AesGcm.{aesGcm}
-use Rattle.packets.proofs.Parts.{part-length}
+use Rattle.packets.proofs.Parts.{mask-rest}
 use Rattle.packets.proofs.Opening.{number-length}
 use Rattle.open.specs.Found.{Spells, Unmasks}
 use Rattle.open.specs.declared.Bare.{Bare}
+
+-- bytes spell the number that is read of them
+pub spells : (s : List ℕ) (t : ℕ) → Bytes s → t ≡ number s → Spells s t
+spells s t bs is = record { small = rw is (number-below s bs); spelled = rw is (sym (bytes-back s bs)) }
 
 -- the number's bytes without the mask, put at the start of a small buffer and taken from there
 pub short-taken : (d mask buffer : List ℕ) (place len count : ℕ) → length mask ≡ 16 → len ≡ count → place + count ≤ length d
     → take count (laid buffer 0 (xor (part d place len) (take 15 (drop 1 mask)))) ≡ onNumber mask (part d place count)
 unfolding onNumber
 short-taken d mask buffer place len count sixteen is inside =
-    let all : take 15 (drop 1 mask) ≡ drop 1 mask = take-all 15 (drop 1 mask) (omega (arith, length-drop 1 mask)) in
     let short : List ℕ = xor (part d place count) (drop 1 mask) in
     let counted : length short ≡ count = xor-length (part d place count) (drop 1 mask) ∙ part-length d place count inside in
-    rw (is, all) (take-at short (drop (0 + length short) buffer) count counted)
+    rw (is, mask-rest mask sixteen) (front-laid buffer short count counted)
 
 -- what they spell is the short number
 pub unmasks : (k : Keys) (d mask short : List ℕ) (place : ℕ) (b : Bare) → place + b .count ≤ length d

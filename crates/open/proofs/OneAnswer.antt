@@ -3,7 +3,7 @@ use Prim.Native.Nat.{ℕ}
 use mathlib.Core.Path.{_≡_, refl, sym, _∙_}
 use mathlib.Core.List.{List}
 use Rattle.octets.specs.Outcome.{Outcome, refused, given}
-use Rattle.wire.proofs.OneAnswer.{once}
+use Rattle.octets.proofs.Outcome.{once}
 use Rattle.packets.specs.Protection.{Keys}
 use Rattle.open.specs.Opening.{Report, openingAnswer, Open}
 use Rattle.open.specs.declared.Opening.{Opening}

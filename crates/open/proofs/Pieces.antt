@@ -4,19 +4,14 @@ use mathlib.Core.Path.{_≡_, refl, sym, _∙_}
 use mathlib.Core.Bool.{Bool}
 use mathlib.Core.List.{List, [], _∷_, _++_}
 use native.Mathlib.Omega.{arith}
-use lib.ListN.{length, take, drop, length-append}
-use lib.Seq.{take-at}
+use lib.ListN.{length, take, length-append}
 use Rattle.octets.specs.Octets.{bytes, part, laid, same}
+use Rattle.octets.proofs.Parts.{part-length}
 use Rattle.octets.proofs.Numbers.{bytes-length}
-use Rattle.octets.proofs.Buffers.{goes-on}
+use Rattle.octets.proofs.Buffers.{front-laid, goes-on}
 use Rattle.gcm.specs.Gcm.{streamBy, tagBy, hashKey}
-use Rattle.packets.proofs.Parts.{part-length}
 use Rattle.open.specs.Found.{Within, plainOf, cipherOf, tagOf, Matches, Writes}
 use Rattle.open.specs.declared.Packet.{Packet}
-
--- a short number put at the start of a small buffer, and taken from there
-number-taken : (buffer : List ℕ) (n t : ℕ) → take n (laid buffer 0 (bytes n t)) ≡ bytes n t
-number-taken buffer n t = take-at (bytes n t) (drop (0 + length (bytes n t)) buffer) n (bytes-length n t)
 
 module _ (d : List ℕ) (p : Packet) (w : Within d p) where
   abbrev middle : List ℕ
@@ -49,8 +44,9 @@ module _ (d : List ℕ) (p : Packet) (w : Within d p) where
         → r ≡ same (part d (p .place + p .length - 16) (p .place + p .length - (p .place + p .length - 16))) right
         → Matches schedule nonce d p r
     matches key buffer short right r its-key its-number its-tag is =
+        let short : List ℕ = bytes (p .count) (p .truncated .0) in
         is
-        ∙ rw (its-tag, its-key, its-number, number-taken buffer (p .count) (p .truncated .0), cipher-is, tag-is)
+        ∙ rw (its-tag, its-key, its-number, front-laid buffer short (p .count) (bytes-length (p .count) (p .truncated .0)), cipher-is, tag-is)
 
     -- first byte, middle, number, payload
     pub writes : (b b₁ b₂ b₃ b₄ : List ℕ) → b₁ ≡ laid b 0 (p .first ∷ []) → b₂ ≡ laid b₁ 1 middle

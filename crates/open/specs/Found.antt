@@ -7,10 +7,10 @@ use lib.ListN.{length}
 use Rattle.octets.specs.Outcome.{refused, given, unless, _>>_}
 use Rattle.octets.specs.Octets.{bytes, begun, same}
 use Rattle.wire.specs.Numbers.{numbers, window}
-use Rattle.wire.specs.Header.{limit, leastLength}
+use Rattle.wire.specs.Header.{limit, leastLength, tagLength}
 use Rattle.gcm.specs.Gcm.{stream, tag, streamBy, tagBy, hashKey}
 use Rattle.packets.specs.Protection.{Keys, nonce}
-use Rattle.packets.specs.Packet.{Opened, opened, tagLength, maskOf}
+use Rattle.packets.specs.Packet.{Opened, opened, maskOf}
 use Rattle.packets.specs.Parts.{Unmasked, plainIn, cipherIn, tagIn}
 use Rattle.packets.specs.AesGcm.{aesGcm}
 use Rattle.open.specs.declared.Opened as Code

@@ -2,9 +2,11 @@
 use octets::refusal;
 use packets::Keys;
 use wire::header::Reading;
+use wire::header::TAG_LENGTH;
 use wire::header::Wanted;
 use wire::header::read_initial;
 use wire::number::FullPn;
+use wire::number::NUMBERS;
 use wire::number::Recovered;
 use wire::number::TruncatedPn;
 use wire::number::recover;
@@ -15,9 +17,6 @@ ghost use Rattle.wire.specs.Numbers.{numbers};
 ghost use Rattle.packets.specs.KeyRecord.{keysOf};
 ghost use Rattle.open.specs.Found.{Within, Spells, Unmasks, Finds, Matches, Writes};
 ghost use Rattle.open.specs.Opening.{Open};
-
-// How many full numbers there are: they run from 0 to 2^62 - 1.
-const NUMBERS: u64 = 1 << 62;
 
 // What was opened: the full number and its length, the header's length with the number in it, the payload's length, and how many of
 // the datagram's bytes the packet took.
@@ -103,7 +102,7 @@ fn find(keys: Keys, expected: u64, datagram: &[u8], room: usize) -> Finding
     };
     let place = header.number_at;
     let length = header.length;
-    if room < place + length - 16 {
+    if room < place + length - TAG_LENGTH {
         return Finding::Refused(refusal::ROOM);
     }
     let bare = unmask(keys, datagram, place);
@@ -139,7 +138,7 @@ fn tag_matches(schedule: &[u8; 176], nonce: &[u8; 12], datagram: &[u8], packet: 
     octets::store(&mut short, 0, count, truncated.0);
     let start = place + count;
     let end = place + packet.length;
-    let close = end - 16;
+    let close = end - TAG_LENGTH;
     let key = gcm::tag::hash_key(schedule);
     let tag = gcm::tag::make_tag(
         schedule,
@@ -170,7 +169,7 @@ fn write_opened(
     let number = packet.number;
     let start = place + count;
     let used = place + packet.length;
-    let end = used - 16;
+    let end = used - TAG_LENGTH;
     octets::put(buffer, 0, packet.first);
     octets::copy(buffer, 1, &datagram[1..place]);
     octets::store(buffer, place, count, truncated.0);

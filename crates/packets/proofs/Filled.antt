@@ -1,23 +1,14 @@
--- Small buffers filled whole: the nonce of section 5.3, and the sample.
-use Prim.Native.Nat.{ℕ, _+_, _/_, _%_, _^_, _≤_, _<_}
+-- Section 5.3: the nonce, as it is laid down.
+use Prim.Native.Nat.{ℕ, _/_, _%_, _^_, _<_}
 use mathlib.Core.Path.{_≡_}
 use mathlib.Core.List.{List, _∷_, append-nil}
 use native.Mathlib.Omega.{arith}
-use lib.ListN.{length, drop, replicate, length-take, length-drop, drop-of-length-le}
-use Rattle.octets.specs.Octets.{bytes, part, laid, xor}
+use lib.ListN.{length, replicate}
+use Rattle.octets.specs.Octets.{bytes, laid, xor}
 use Rattle.octets.proofs.Numbers.{bytes-length}
 use Rattle.octets.proofs.Xor.{xor-length}
+use Rattle.octets.proofs.Buffers.{laid-all}
 use Rattle.packets.specs.Protection.{nonce}
-
--- bytes that fill a buffer are all that it holds
-pub laid-all : (d s : List ℕ) → length d ≡ length s → laid d 0 s ≡ s
-laid-all d s e = rw (drop-of-length-le d {i = 0 + length s} (omega arith)) (append-nil s)
-
--- a part that fills a buffer is all that it holds
-pub whole-part : (d s : List ℕ) (at len k : ℕ) → len ≡ k → at + k ≤ length s → length d ≡ k → laid d 0 (part s at len) ≡ part s at k
-whole-part d s at len k is inside fills =
-    let l : length (part s at k) ≡ k = rw (length-take k (drop at s), length-drop at s) (omega arith) in
-    rw is (laid-all d (part s at k) (omega arith))
 
 padded-bytes : (n : ℕ) → n < 2 ^ 64 → bytes 12 n ≡ 0 ∷ 0 ∷ 0 ∷ 0 ∷ bytes 8 n
 unfolding bytes

@@ -11,17 +11,19 @@ use borrow.Author.Tests.{le-leb, lt-leb, lt-ltb, le-ltb, eq-eqb, ne-eqb, ltb-tru
 use Rattle.octets.specs.Outcome.{refused, given, unless, _>>_}
 use Rattle.octets.specs.Octets.{Bytes, number, part, same}
 use Rattle.octets.proofs.Outcome.{apart, given-same}
-use Rattle.octets.proofs.Numbers.{byte-power, number-lt}
+use Rattle.octets.proofs.Parts.{part-length, part-taken}
+use Rattle.octets.proofs.Bytes.{part-bytes, drop-bytes, xor-bytes}
+use Rattle.octets.proofs.Numbers.{number-below}
 use Rattle.wire.specs.Numbers.{numbers, window, decoded, recovered}
 use Rattle.wire.specs.Versions.{known}
-use Rattle.wire.specs.Header.{Header, header, leastLength}
+use Rattle.wire.specs.Header.{Header, header, leastLength, tagLength}
 use Rattle.wire.proofs.Recovery.{recover-range, recover-given}
 use Rattle.wire.proofs.Headers.{header-there}
 use Rattle.packets.specs.Suite.{Suite}
 use Rattle.packets.specs.Protection.{Keys, nonce, onFirst, onNumber, sampleOf}
-use Rattle.packets.specs.Packet.{tagLength, maskOf, Opened, unprotected, opened}
+use Rattle.packets.specs.Packet.{maskOf, Opened, unprotected, opened}
 use Rattle.packets.specs.Parts.{Unmasked, plainIn, cipherIn, tagIn}
-use Rattle.packets.proofs.Parts.{xor-bytes, part-bytes, drop-bytes, part-taken, part-length, cipher-part, tag-part}
+use Rattle.packets.proofs.Parts.{cipher-part, tag-part}
 use Rattle.packets.proofs.Sealing.{masked-length}
 
 -- ---- the number's bytes
@@ -41,7 +43,7 @@ module _ {suite : Suite} {k : Keys} {d : List ℕ} {at : ℕ} {mask : List ℕ} 
   number-bytes bs ms = rw (u .its-number) (xor-bytes (part d at n) (drop 1 mask) (part-bytes d at n bs) (drop-bytes 1 mask ms))
 
   pub number-small : at + n ≤ length d → Bytes short → number short < window n
-  number-small h bs = rw (← (byte-power n), ← (number-length h)) (number-lt short bs)
+  number-small h bs = rw (← (number-length h)) (number-below short bs)
 
 -- ---- recovering it
 module _ (e t n : ℕ) (fair : e ≤ numbers) (some : 1 ≤ n) (few : n ≤ 4) (small : t < window n) where
@@ -164,10 +166,10 @@ module _ (suite : Suite) (k : Keys) (e : ℕ) (d : List ℕ) (room : ℕ) where
                   used = at + len;
                 }
 
-                -- the tag alone is left to be judged
-                judged : opened suite k e d room ≡ (unless 11 (same (tagIn d at len) tag) >> given found)
+                -- the tag alone is left to be judged, all of it
+                pub open-judged : opened suite k e d room ≡ (unless 11 (same (tagIn d at len) tag) >> given found)
                 unfolding unprotected
-                judged =
+                open-judged =
                     opens
                     ∙ rw (
                       there .mask-there,
@@ -185,7 +187,7 @@ module _ (suite : Suite) (k : Keys) (e : ℕ) (d : List ℕ) (room : ℕ) where
                     )
 
                 pub open-tag : same (tagIn d at len) tag ≡ false → opened suite k e d room ≡ refused 11
-                open-tag differs = judged ∙ rw differs
+                open-tag differs = open-judged ∙ rw differs
 
                 pub open-given : same (tagIn d at len) tag ≡ true → opened suite k e d room ≡ given found
-                open-given matches = judged ∙ rw matches
+                open-given matches = open-judged ∙ rw matches

@@ -1,16 +1,17 @@
 -- A sealed packet is opened again, whatever stands behind it: the mask comes off, the parts are found where they were written,
 -- the number is recovered, the tag matches, the stream undoes itself.
-use Prim.Native.Nat.{ℕ, _+_, _-_, _/_, _%_, _≤_}
+use Prim.Native.Nat.{ℕ, _+_, _-_, _/_, _%_, _≤_, _<_}
 use mathlib.Core.Path.{_≡_, refl, sym, ap, _∙_}
 use mathlib.Core.List.{List, _∷_, _++_, append-assoc}
 use native.Mathlib.Omega.{arith}
-use lib.Bits.{xor-shr, xor-zero-r}
+use lib.Bits.{bitXor, xor-shr, xor-zero-r}
 use lib.Dec.{eqb}
-use lib.ListN.{length, getD, drop, length-append}
+use lib.ListN.{length, drop, length-append}
 use lib.Seq.{take-append-seam, drop-at, drop-drop}
 use borrow.Author.Tests.{eq-eqb}
 use Rattle.octets.specs.Outcome.{given}
 use Rattle.octets.specs.Octets.{bytes, number, part}
+use Rattle.octets.proofs.Parts.{part-front}
 use Rattle.octets.proofs.Numbers.{byte-power, number-bytes}
 use Rattle.octets.proofs.Xor.{xor-twice, xor-undone}
 use Rattle.wire.specs.Numbers.{numbers, decoded, Near}
@@ -26,11 +27,21 @@ use Rattle.packets.specs.Packet.{opened}
 use Rattle.packets.specs.Parts.{Unmasked, plainIn, cipherIn, tagIn}
 use Rattle.packets.specs.Effects.{whatWasSealed}
 use Rattle.octets.proofs.Same.{equal-same}
-use Rattle.packets.proofs.Parts.{part-front}
 use Rattle.packets.proofs.Sealing.{Sealed, short-length, masked-length, packet-is, packet-length}
 use Rattle.packets.proofs.Opening.{open-given}
 
 -- ---- the first byte
+-- what is added to the low four bits leaves the others
+high-bits : (b low : ℕ) → low < 16 → bitXor b low / 16 ≡ b / 16
+high-bits b low h =
+    let none : low / 16 ≡ 0 = omega arith in
+    xor-shr b low 4 ∙ rw (none, xor-zero-r (b / 16))
+
+-- the mask leaves form, fixed bit and type
+first-kept : (mask : List ℕ) (b : ℕ) → onFirst mask b / 16 ≡ b / 16
+unfolding onFirst
+first-kept mask b = high-bits b _ (omega arith)
+
 module _ (v : ℕ) (p : Plain) (positive : 1 ≤ p .numberLength) (short : p .numberLength ≤ 4) where
   first-length : p .numberLength ≡ firstByte v p % 4 + 1
   unfolding firstByte
@@ -42,16 +53,13 @@ module _ (v : ℕ) (p : Plain) (positive : 1 ≤ p .numberLength) (short : p .nu
 
   -- form and type, under any mask
   first-form : (mask : List ℕ) → onFirst mask (firstByte v p) / 16 ≡ 12 + version v .initialType
-  unfolding firstByte onFirst
-  first-form mask =
-      let low : ℕ = getD mask 0 0 % 16 in
-      let none : low / 16 ≡ 0 = omega arith in
-      xor-shr (firstByte v p) low 4 ∙ rw (none, xor-zero-r (firstByte v p / 16)) (omega arith)
+  unfolding firstByte
+  first-form mask = first-kept mask (firstByte v p) ∙ omega arith
 
 -- ---- a mask laid on twice
 first-back : (mask : List ℕ) (b : ℕ) → onFirst mask (onFirst mask b) ≡ b
 unfolding onFirst
-first-back mask b = xor-twice b (getD mask 0 0 % 16)
+first-back mask b = xor-twice b _
 
 number-back : (mask bs : List ℕ) → onNumber mask (onNumber mask bs) ≡ bs
 unfolding onNumber

@@ -19,7 +19,7 @@ use Rattle.wire.specs.Written.{Plain, two, smallest, longFields, initialFields,
 use Rattle.wire.proofs.Forms.{two-bytes, long-length}
 use Rattle.packets.specs.Suite.{Suite, Laws}
 use Rattle.packets.specs.Protection.{Keys, nonce, onFirst, onNumber, sampleOf}
-use Rattle.packets.specs.Packet.{maskOf, bodyOf, packetOf, sealed}
+use Rattle.packets.specs.Packet.{maskOf, bodyWith, bodyOf, packetOf, sealed}
 
 -- ---- refusals in their order, then the packet
 module _ (suite : Suite) (k : Keys) (a : Acknowledged) (p : Plain) (room : ℕ) where
@@ -110,12 +110,12 @@ module _ (suite : Suite) (k : Keys) (p : Plain) where
       → mask ≡ suite .mask (k .hp) (sampleOf (plainHeader (k .version) p ++ (cipher ++ tag)) (length (front (k .version) p)))
       → packetOf suite k p
       ≡ onFirst mask (firstByte (k .version) p) ∷ fields (k .version) p ++ onNumber mask (bytes (p .numberLength) (p .packetNumber)) ++ (cipher ++ tag)
-  unfolding packetOf bodyOf
+  unfolding packetOf bodyOf bodyWith
   packet-is cipher tag mask c t m = rw (m, t, c)
 
   module _ (laws : Laws suite) where
     pub body-length : length (bodyOf suite k p) ≡ length (p .payload) + 16
-    unfolding bodyOf
+    unfolding bodyOf bodyWith
     body-length =
         let once = nonce (k .iv) (p .packetNumber) in
         let cipher = suite .stream (k .key) once (p .payload) in

@@ -8,26 +8,25 @@ use Rattle.octets.specs.Outcome.{Outcome, given, unless, _>>=_, _>>_}
 use Rattle.octets.specs.Octets.{bytes, number, part, same}
 use Rattle.wire.specs.Numbers.{Acknowledged, numbers, shortened, decoded}
 use Rattle.wire.specs.Versions.{known}
-use Rattle.wire.specs.Header.{header, limit, longestId}
+use Rattle.wire.specs.Header.{header, limit, longestId, tagLength}
 use Rattle.wire.specs.Written.{Plain, firstByte, fields, front, plainHeader}
 use Rattle.packets.specs.Suite.{Suite}
 use Rattle.packets.specs.Protection.{Keys, nonce, onFirst, onNumber, sampleOf}
-
--- the tag's length
-abbrev pub tagLength : ℕ
-tagLength = 16
 
 module _ (suite : Suite) where
   abbrev pub maskOf : Keys → (packet : List ℕ) (numberAt : ℕ) → List ℕ
   maskOf k packet numberAt = suite .mask (k .hp) (sampleOf packet numberAt)
 
   -- ---- sealing
-  -- the encrypted payload, and the tag over the plain header and it
+  -- the encrypted payload, and the tag over a header and it
+  unfoldable pub bodyWith : (key once header payload : List ℕ) → List ℕ
+  bodyWith key once header payload =
+      let cipher = suite .stream key once payload in
+      cipher ++ suite .tag key once header cipher
+
+  -- over the packet's plain header
   unfoldable pub bodyOf : Keys → Plain → List ℕ
-  bodyOf k p =
-      let once = nonce (k .iv) (p .packetNumber) in
-      let cipher = suite .stream (k .key) once (p .payload) in
-      cipher ++ suite .tag (k .key) once (plainHeader (k .version) p) cipher
+  bodyOf k p = bodyWith (k .key) (nonce (k .iv) (p .packetNumber)) (plainHeader (k .version) p) (p .payload)
 
   -- protection comes after the payload is encrypted: the mask, by a sample of the packet, over the first byte and the number
   unfoldable pub packetOf : Keys → Plain → List ℕ

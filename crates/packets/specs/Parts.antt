@@ -4,9 +4,9 @@ use mathlib.Core.Path.{_≡_}
 use mathlib.Core.List.{List, _∷_, _++_}
 use lib.ListN.{getD}
 use Rattle.octets.specs.Octets.{part}
+use Rattle.wire.specs.Header.{tagLength}
 use Rattle.packets.specs.Suite.{Suite}
 use Rattle.packets.specs.Protection.{Keys, onFirst, onNumber, sampleOf}
-use Rattle.packets.specs.Packet.{tagLength}
 
 -- section 5.4.1, undone: the mask, the first byte under it, the number's length that this byte tells, and the number's bytes
 pub record Unmasked (suite : Suite) (k : Keys) (d : List ℕ) (at : ℕ) (mask : List ℕ) (first n : ℕ) (short : List ℕ) : Type 0 where

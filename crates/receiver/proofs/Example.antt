@@ -16,7 +16,7 @@ use Rattle.wire.specs.Header.{idAt, versionOf, judged, long, integerAt, fieldAt
 use Rattle.wire.specs.Written.{two, smallest, longFields, initialFields, firstByte}
 use Rattle.packets.specs.Suite.{Laws}
 use Rattle.packets.specs.Protection.{nonce, onFirst, onNumber, sampleOf}
-use Rattle.packets.specs.Packet.{bodyOf, packetOf, sealed, unprotected, opened}
+use Rattle.packets.specs.Packet.{bodyWith, bodyOf, packetOf, sealed, unprotected, opened}
 use Rattle.receiver.specs.Receiver.{Good, Fair}
 use Rattle.receiver.specs.Example.{toy, keys, plainOf, sealedOf, parcelOf, comes, empty, damaged, coming, opens, refuses, lent, Example}
 use Rattle.receiver.proofs.Receiver.{demand3}
@@ -44,10 +44,10 @@ fair : Fair toy keys 0 coming
 unfolding toy keys plainOf sealedOf parcelOf comes empty damaged coming
     bytes number xor version1 draft2 known version integer coverable ahead gap shortened decoded
     idAt versionOf judged long integerAt fieldAt restAt header two smallest longFields initialFields firstByte
-    nonce onFirst onNumber sampleOf same bodyOf packetOf sealed unprotected opened
+    nonce onFirst onNumber sampleOf same bodyWith bodyOf packetOf sealed unprotected opened
 fair = (good 0 0 refl refl tt tt, (refl, (good 1 2 refl refl tt tt, (good 3 2 refl refl tt tt, (refl, (good 3 4 refl refl tt tt, (good 5 3 refl refl tt tt, tt)))))))
 
 -- what is owed, as bytes
 pub example : Example
-unfolding keys plainOf sealedOf parcelOf comes empty damaged coming opens refuses toy bytes number xor version1 version two smallest longFields initialFields firstByte nonce onFirst onNumber sampleOf bodyOf packetOf
+unfolding keys plainOf sealedOf parcelOf comes empty damaged coming opens refuses toy bytes number xor version1 version two smallest longFields initialFields firstByte nonce onFirst onNumber sampleOf bodyWith bodyOf packetOf
 example = let r = demand3 toy laws keys 0 coming (lit≤ tt) fair in record { each = r .each; last = r .last }

@@ -6,11 +6,11 @@ use lib.ListN.{length}
 use Rattle.octets.specs.Outcome.{Outcome, refused, given}
 use Rattle.octets.specs.Octets.{placed}
 use Rattle.wire.specs.Numbers.{Acknowledged, numbers, Near}
-use Rattle.wire.specs.Header.{limit}
+use Rattle.wire.specs.Header.{limit, tagLength}
 use Rattle.wire.specs.Written.{Plain}
 use Rattle.packets.specs.Suite.{Suite, Laws}
 use Rattle.packets.specs.Protection.{Keys}
-use Rattle.packets.specs.Packet.{tagLength, sealed, Opened, opened}
+use Rattle.packets.specs.Packet.{sealed, Opened, opened}
 use Rattle.packets.specs.Effects.{output, after, whatWasSealed}
 
 -- ---- the receiver

@@ -4,8 +4,8 @@ use mathlib.Core.Path.{_≡_, refl, sym, _∙_}
 use mathlib.Core.List.{List}
 use Rattle.octets.specs.Outcome.{Outcome, refused, given}
 use Rattle.wire.specs.Header as Section17
-use Rattle.wire.specs.declared.header.Place.{Place}
-use Rattle.wire.proofs.OneAnswer.{once}
+use Rattle.octets.proofs.Outcome.{once}
+use Rattle.wire.proofs.OneAnswer.{placeBack}
 use Rattle.retry.specs.Retry as Fields
 use Rattle.retry.specs.Answers.{writingAnswer, checkingAnswer, WriteRetry, CheckRetry, RetryDestination, RetrySource, RetryToken}
 use Rattle.retry.specs.declared.Writing.{Writing}
@@ -29,9 +29,6 @@ pub write-retry-once : {v : ℕ} {original destination source token : List ℕ} 
 write-retry-once a b = (once writingAnswer writingBack writing-back (a .answer) (b .answer), a .output ∙ sym (b .output))
 
 -- ---- checking
-placeBack : Section17.Place → Place
-placeBack p = record { at = p .at; len = p .len }
-
 checkingBack : Outcome Fields.RetryFields → Checking
 checkingBack (refused n) = Checking.Refused n
 checkingBack (given f) = Checking.Checked (record {
@@ -42,7 +39,7 @@ checkingBack (given f) = Checking.Checked (record {
 })
 
 checking-back : (r : Checking) → checkingBack (checkingAnswer r) ≡ r
-unfolding checkingBack placeBack
+unfolding checkingBack
 checking-back (Checking.Refused n) = refl
 checking-back (Checking.Checked f) = refl
 

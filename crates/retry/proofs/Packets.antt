@@ -1,26 +1,20 @@
 -- How long a Retry is, how its tag is made, and how it is written, piece by piece.
-use Prim.Native.Nat.{ℕ, _+_, _%_, _≤_}
+use Prim.Native.Nat.{ℕ, _+_, _%_}
 use mathlib.Core.Path.{_≡_, sym, ap, _∙_}
 use mathlib.Core.List.{List, [], _∷_}
-use native.Mathlib.Nat.{min-le-left}
 use native.Mathlib.Omega.{arith}
-use lib.ListN.{length, take, drop, length-append, length-take}
-use lib.Seq.{take-at}
+use lib.ListN.{length, take, length-append}
 use Rattle.octets.specs.Octets.{laid, Begins}
-use Rattle.octets.proofs.Buffers.{goes-on}
+use Rattle.octets.proofs.Buffers.{begun-front, goes-on}
 use Rattle.aes128.specs.Expansion.{expansion}
 use Rattle.gcm.specs.Gcm.{hashKey, tagBy, tag}
 use Rattle.wire.specs.Versions.{version}
 use Rattle.wire.specs.Written.{longFirst, longFields}
 use Rattle.wire.proofs.Forms.{long-length}
 use Rattle.gcm.proofs.Laws.{tag-length}
-use Rattle.packets.specs.Packet.{tagLength}
+use Rattle.wire.specs.Header.{tagLength}
 use Rattle.retry.specs.Retry.{untagged, pseudoPacket, retryTag, tagged}
 use Rattle.retry.specs.Answers.{sizeOf}
-
--- the first n of a list are no more than n
-pub front-short : (n : ℕ) (d : List ℕ) {m : ℕ} → n ≤ m → length (take n d) ≤ m
-front-short n d h = omega (arith, length-take n d, min-le-left n (length d))
 
 pub untagged-length : (v : ℕ) (destination source token : List ℕ) (low : ℕ)
     → length (untagged v destination source token low) ≡ 7 + length destination + length source + length token
@@ -67,7 +61,7 @@ pub tag-laid : (v : ℕ) (original packet out d₁ d₂ tag : List ℕ) (at : �
     → Begins packet out d₁ at → tag ≡ retryTag v original (take at d₁) → d₂ ≡ laid d₁ at tag → Begins (tagged v original packet) out d₂ (at + tagLength)
 unfolding tagged
 tag-laid v original packet out d₁ d₂ tag at begins made then =
-    let front : take at d₁ ≡ packet = ap (take at) (begins .holds) ∙ take-at packet (drop (length packet) out) at (sym (begins .ends)) in
+    let front : take at d₁ ≡ packet = ap (take at) (begins .holds) ∙ begun-front packet out at (sym (begins .ends)) in
     let is = made ∙ ap (retryTag v original) front in
     record {
       holds = goes-on packet (retryTag v original packet) out d₁ d₂ at (begins .holds) (then ∙ ap (laid d₁ at) is) (begins .ends);

@@ -1,20 +1,19 @@
 -- What writing and checking a Retry come to, by what the tests show.
 use Prim.Native.Nat.{ℕ, _+_, _-_, _≤_, _<_}
-use mathlib.Core.Path.{_≡_, refl, sym}
+use mathlib.Core.Path.{_≡_, refl, sym, _∙_}
 use mathlib.Core.Bool.{true, false}
 use mathlib.Core.List.{List}
 use native.Mathlib.Omega.{arith}
 use lib.Dec.{leb}
 use lib.ListN.{length, take, drop}
 use borrow.Author.Tests.{le-leb, lt-leb, leb-true}
-use Rattle.octets.specs.Outcome.{refused, given}
+use Rattle.octets.specs.Outcome.{refused, given, unless, _>>_}
 use Rattle.octets.proofs.Outcome.{passed, stepped, given-same}
 use Rattle.wire.specs.Versions.{known}
-use Rattle.wire.specs.Header.{Place, Long, behind, limit, longestId, long}
+use Rattle.wire.specs.Header.{Place, Long, behind, limit, longestId, long, tagLength}
 use Rattle.wire.proofs.Fields.{Within}
 use Rattle.wire.proofs.Headers.{long-there}
 use Rattle.octets.specs.Octets.{same}
-use Rattle.packets.specs.Packet.{tagLength}
 use Rattle.retry.specs.Retry.{RetryFields, untagged, retryTag, tagged, retryWritten, tokenAt, retryChecked}
 use Rattle.retry.specs.Answers.{sizeOf}
 use Rattle.retry.proofs.Packets.{retry-length}
@@ -31,71 +30,50 @@ module _ (v : ℕ) (original destination source token : List ℕ) (low room : �
     write-long-original h = rw (ours, lt-leb (length original) longestId h)
 
     module _ (o : length original ≤ longestId) where
+      original-id : leb (length original) longestId ≡ true
+      original-id = le-leb (length original) longestId o
+
       pub write-long-destination : longestId < length destination → retryWritten v original destination source token low room ≡ refused 5
       unfolding retryWritten
-      write-long-destination h = rw (ours, le-leb (length original) longestId o, lt-leb (length destination) longestId h)
+      write-long-destination h = rw (ours, original-id, lt-leb (length destination) longestId h)
 
       module _ (d : length destination ≤ longestId) where
+        first-id : leb (length destination) longestId ≡ true
+        first-id = le-leb (length destination) longestId d
+
         pub write-long-source : longestId < length source → retryWritten v original destination source token low room ≡ refused 5
         unfolding retryWritten
-        write-long-source h =
-            rw (ours, le-leb (length original) longestId o, le-leb (length destination) longestId d, lt-leb (length source) longestId h)
+        write-long-source h = rw (ours, original-id, first-id, lt-leb (length source) longestId h)
 
         module _ (s : length source ≤ longestId) where
+          second-id : leb (length source) longestId ≡ true
+          second-id = le-leb (length source) longestId s
+
           pub write-no-token : length token < 1 → retryWritten v original destination source token low room ≡ refused 13
           unfolding retryWritten
-          write-no-token h =
-              rw (
-                ours,
-                le-leb (length original) longestId o,
-                le-leb (length destination) longestId d,
-                le-leb (length source) longestId s,
-                lt-leb 1 (length token) h,
-              )
+          write-no-token h = rw (ours, original-id, first-id, second-id, lt-leb 1 (length token) h)
 
           module _ (some : 1 ≤ length token) where
-            pub write-large : limit < sizeOf destination source token → retryWritten v original destination source token low room ≡ refused 1
+            -- size and room alone are left to be judged
+            judged : retryWritten v original destination source token low room
+                ≡ (unless 1 (leb (sizeOf destination source token) limit)
+                >> (unless 8 (leb (sizeOf destination source token) room) >> given (tagged v original (untagged v destination source token low))))
             unfolding retryWritten
-            write-large h =
-                rw (
-                  ours,
-                  le-leb (length original) longestId o,
-                  le-leb (length destination) longestId d,
-                  le-leb (length source) longestId s,
-                  le-leb 1 (length token) some,
-                  retry-length v original destination source token low,
-                  lt-leb (sizeOf destination source token) limit h,
-                )
+            judged = rw (ours, original-id, first-id, second-id, le-leb 1 (length token) some, retry-length v original destination source token low)
+
+            pub write-large : limit < sizeOf destination source token → retryWritten v original destination source token low room ≡ refused 1
+            write-large h = judged ∙ rw (lt-leb (sizeOf destination source token) limit h)
 
             module _ (fits : sizeOf destination source token ≤ limit) where
+              sized : leb (sizeOf destination source token) limit ≡ true
+              sized = le-leb (sizeOf destination source token) limit fits
+
               pub write-no-room : room < sizeOf destination source token → retryWritten v original destination source token low room ≡ refused 8
-              unfolding retryWritten
-              write-no-room h =
-                  rw (
-                    ours,
-                    le-leb (length original) longestId o,
-                    le-leb (length destination) longestId d,
-                    le-leb (length source) longestId s,
-                    le-leb 1 (length token) some,
-                    retry-length v original destination source token low,
-                    le-leb (sizeOf destination source token) limit fits,
-                    lt-leb (sizeOf destination source token) room h,
-                  )
+              write-no-room h = judged ∙ rw (sized, lt-leb (sizeOf destination source token) room h)
 
               pub write-given : sizeOf destination source token ≤ room
                   → retryWritten v original destination source token low room ≡ given (tagged v original (untagged v destination source token low))
-              unfolding retryWritten
-              write-given h =
-                  rw (
-                    ours,
-                    le-leb (length original) longestId o,
-                    le-leb (length destination) longestId d,
-                    le-leb (length source) longestId s,
-                    le-leb 1 (length token) some,
-                    retry-length v original destination source token low,
-                    le-leb (sizeOf destination source token) limit fits,
-                    le-leb (sizeOf destination source token) room h,
-                  )
+              write-given h = judged ∙ rw (sized, le-leb (sizeOf destination source token) room h)
 
 -- what a Retry that was written tells of its parts
 pub record RetryMade (v : ℕ) (original destination source token : List ℕ) (low : ℕ) (packet : List ℕ) : Type 0 where

@@ -8,7 +8,7 @@ use lib.ListN.{length, take, drop, length-append}
 use lib.Seq.{take-at, drop-at}
 use Rattle.octets.specs.Outcome.{given}
 use Rattle.wire.specs.Versions.{version}
-use Rattle.wire.specs.Header.{behind, long}
+use Rattle.wire.specs.Header.{long, tagLength}
 use Rattle.wire.specs.HeaderAnswers.{handed}
 use Rattle.wire.specs.Written.{longFirst, longFields}
 use Rattle.wire.proofs.Versions.{retry-fits}
@@ -17,7 +17,6 @@ use Rattle.wire.proofs.HeaderBack.{first-form, long-read, longPlaces, behind-id
 use Rattle.wire.proofs.Places.{At, part-at}
 use Rattle.octets.specs.Octets.{same}
 use Rattle.octets.proofs.Same.{equal-same}
-use Rattle.packets.specs.Packet.{tagLength}
 use Rattle.retry.specs.Retry.{RetryFields, untagged, retryTag, tagged, retryWritten, tokenAt, retryChecked}
 use Rattle.retry.proofs.Packets.{untagged-length, retry-tag-length}
 use Rattle.retry.proofs.Refusals.{RetryMade, retry-made, token-found, check-given}

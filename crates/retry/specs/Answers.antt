@@ -5,9 +5,8 @@ use mathlib.Core.List.{List}
 use lib.ListN.{length}
 use Rattle.octets.specs.Outcome.{Outcome, refused, given}
 use Rattle.octets.specs.Octets.{placed, lengthGiven}
-use Rattle.wire.specs.Header.{limit, longestId}
+use Rattle.wire.specs.Header.{limit, longestId, tagLength}
 use Rattle.wire.specs.HeaderAnswers.{placeOf, handed}
-use Rattle.packets.specs.Packet.{tagLength}
 use Rattle.retry.specs.Retry as Section17
 use Rattle.retry.specs.Retry.{retryWritten, retryChecked}
 use Rattle.retry.specs.declared.Writing.{Writing}

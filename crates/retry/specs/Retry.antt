@@ -1,16 +1,15 @@
 -- Retry packets: RFC 9000 section 17.2.5 and RFC 9001 section 5.8, with document 01's order of refusals.
-use Prim.Native.Nat.{ℕ, _+_, _-_, _%_}
+use Prim.Native.Nat.{ℕ, _-_, _%_}
 use mathlib.Core.List.{List, [], _∷_, _++_}
 use mathlib.Core.Bool.{true}
 use lib.Dec.{leb}
 use lib.ListN.{length, take, drop}
 use Rattle.octets.specs.Outcome.{Outcome, given, unless, _>>=_, _>>_}
 use Rattle.wire.specs.Versions.{known, version}
-use Rattle.wire.specs.Header.{Place, behind, limit, longestId, whole, long}
+use Rattle.wire.specs.Header.{Place, behind, limit, longestId, whole, long, tagLength}
 use Rattle.wire.specs.Written.{longFirst, withLength, longFields}
 use Rattle.gcm.specs.Gcm.{tag}
 use Rattle.octets.specs.Octets.{same}
-use Rattle.packets.specs.Packet.{tagLength}
 
 -- ---- RFC 9000 section 17.2.5: the packet up to its tag
 -- the first byte's low four bits are unused: the writer takes them from a number, by its remainder by 16

@@ -2,8 +2,11 @@
 use octets::refusal;
 use wire::header::Found;
 use wire::header::Kind;
+use wire::header::LIMIT;
+use wire::header::LONGEST_ID;
 use wire::header::LongReading;
 use wire::header::Place;
+use wire::header::TAG_LENGTH;
 use wire::header::Wanted;
 use wire::header::part_at;
 use wire::header::read_long;
@@ -16,15 +19,6 @@ ghost use Rattle.wire.specs.Header.{limit, longestId};
 ghost use Rattle.wire.specs.HeaderAnswers.{foundAnswer};
 ghost use Rattle.retry.specs.Retry.{untagged, retryTag, tagged, tokenAt};
 ghost use Rattle.retry.specs.Answers.{WriteRetry, Writable, CheckRetry, RetryDestination, RetrySource, RetryToken};
-
-// The largest datagram.
-const LIMIT: usize = 1500;
-
-// The longest connection ID.
-const LONGEST_ID: usize = 20;
-
-// The tag's length.
-const TAG: usize = 16;
 
 // What writing answers: a refusal's number, or the packet's length.
 pub enum Writing {
@@ -79,7 +73,7 @@ fn write_packet(
     let tag_at = token_at + token.len();
     let tag = tag_of(number, original, &buffer[..tag_at]);
     octets::copy(buffer, tag_at, &tag);
-    tag_at + TAG
+    tag_at + TAG_LENGTH
 }
 
 // A Retry of the version that answers the original connection ID, written at the output's start.
@@ -109,7 +103,7 @@ pub fn write_retry(
     if token.len() < 1 {
         return Writing::Refused(refusal::NO_TOKEN);
     }
-    let beside_token = 7 + destination.len() + source.len() + TAG;
+    let beside_token = 7 + destination.len() + source.len() + TAG_LENGTH;
     if LIMIT - beside_token < token.len() {
         return Writing::Refused(refusal::SIZE);
     }
@@ -126,10 +120,10 @@ fn token_at(datagram: &[u8], at: usize) -> Found
     ensures { λ r. ⌜ foundAnswer r ≡ tokenAt (now (datagram .entry)) at ⌝ }
 {
     let behind = datagram.len() - at;
-    if behind < TAG {
+    if behind < TAG_LENGTH {
         return Found::Refused(refusal::NOT_WHOLE);
     }
-    let len = behind - TAG;
+    let len = behind - TAG_LENGTH;
     if len < 1 {
         return Found::Refused(refusal::NO_TOKEN);
     }

@@ -1,26 +1,16 @@
 -- The body behind a header: what is encrypted, and the tag over both.
 use Prim.Native.Nat.{ℕ, _+_, _-_, _≤_}
-use mathlib.Core.Path.{_≡_, sym, ap, _∙_}
-use mathlib.Core.List.{List, [], _++_, append-assoc, append-nil}
+use mathlib.Core.Path.{_≡_, ap, _∙_}
+use mathlib.Core.List.{List, [], _++_, append-nil}
 use native.Mathlib.Omega.{arith}
-use lib.ListN.{length, take, drop}
-use lib.Seq.{take-at, drop-at, length-take-le}
+use lib.ListN.{length, take}
 use Rattle.octets.specs.Octets.{part, laid}
-use Rattle.octets.proofs.Buffers.{laid-more}
+use Rattle.octets.proofs.Buffers.{take-laid, part-laid, laid-more}
 use Rattle.aes128.specs.Expansion.{expansion}
 use Rattle.gcm.specs.Gcm.{stream, streamBy, tag, tagBy, hashKey}
 use Rattle.gcm.proofs.Laws.{stream-by-length}
-use Rattle.seal.specs.Sealing.{bodyWith}
-
--- ---- what stands before, and at, a place where something was laid
-module _ (d : List ℕ) (at : ℕ) (s : List ℕ) (inside : at ≤ length d) where
-  pub take-laid : take at (laid d at s) ≡ take at d
-  take-laid = rw (append-assoc (take at d) s (drop (at + length s) d)) (take-at (take at d) (s ++ drop (at + length s) d) at (length-take-le at d inside))
-
-  pub part-laid : (n : ℕ) → n ≡ length s → part (laid d at s) at n ≡ s
-  part-laid n e =
-      rw (append-assoc (take at d) s (drop (at + length s) d), drop-at (take at d) (s ++ drop (at + length s) d) at (length-take-le at d inside))
-      (take-at s (drop (at + length s) d) n (sym e))
+use Rattle.packets.specs.Packet.{bodyWith}
+use Rattle.packets.specs.AesGcm.{aesGcm}
 
 -- the tag's last two pieces are empty
 pub one-piece : (schedule : List ℕ) (h : ℕ) (once header cipher : List ℕ) → tagBy schedule h once (header ++ [] ++ []) cipher ≡ tagBy schedule h once header cipher
@@ -32,12 +22,12 @@ pub body-laid : (key once payload buffer schedule one made two : List ℕ) (at :
     → one ≡ laid buffer at (streamBy schedule once payload)
     → made ≡ tagBy schedule (hashKey schedule) once (take at one) (part one at (at + length payload - at))
     → two ≡ laid one (at + length payload) made
-    → two ≡ laid buffer at (bodyWith key once (take at buffer) payload)
+    → two ≡ laid buffer at (bodyWith aesGcm key once (take at buffer) payload)
 unfolding bodyWith stream tag
 body-laid key once payload buffer schedule one made two at inside expanded encrypted tagged then =
     let cipher : List ℕ = streamBy (expansion key) once payload in
     let size : length cipher ≡ length payload = stream-by-length (expansion key) once payload in
-    let e : at + length payload - at ≡ length cipher = omega arith in
+    let e : length cipher ≡ at + length payload - at = omega arith in
     rw (
       then,
       tagged,

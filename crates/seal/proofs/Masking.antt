@@ -1,24 +1,25 @@
 -- The mask over a packet that stands at a buffer's start.
-use Prim.Native.Nat.{ℕ, _+_, _-_, _%_, _≤_}
+use Prim.Native.Nat.{ℕ, _+_, _%_, _≤_}
 use mathlib.Core.Path.{_≡_}
 use mathlib.Core.List.{List, [], _∷_}
 use native.Mathlib.Omega.{arith}
 use lib.Bits.{bitXor}
-use lib.ListN.{length, getD, take, drop, length-drop}
-use lib.Seq.{length-take-le, take-all, take-at}
+use lib.ListN.{length, getD, take, drop}
 use Rattle.octets.specs.Octets.{part, xor, laid}
+use Rattle.octets.proofs.Parts.{part-length}
+use Rattle.octets.proofs.Buffers.{front-laid}
 use Rattle.packets.specs.Protection.{onFirst, onNumber, masked}
-use Rattle.packets.proofs.Parts.{part-length}
+use Rattle.packets.proofs.Parts.{mask-rest}
 
 -- the number's bytes, put at the start of a small buffer and taken from there
 pub number-taken : (d buffer : List ℕ) (place len count : ℕ) → len ≡ count → place + count ≤ length buffer
     → take count (laid d 0 (part buffer place len)) ≡ part buffer place count
 number-taken d buffer place len count is inside =
-    rw is (take-at (part buffer place count) (drop (0 + length (part buffer place count)) d) count (part-length buffer place count inside))
+    rw is (front-laid d (part buffer place count) count (part-length buffer place count inside))
 
 -- what a mask has behind its first byte
 pub rest-length : (mask : List ℕ) → length mask ≡ 16 → length (take 15 (drop 1 mask)) ≡ 15
-rest-length mask sixteen = length-take-le 15 (drop 1 mask) (omega (arith, length-drop 1 mask))
+rest-length mask sixteen = part-length mask 1 15 (omega arith)
 
 -- what is laid over the first byte and the number is the mask
 pub mask-laid : (mask buffer one two short : List ℕ) (place count : ℕ) → length mask ≡ 16
@@ -28,5 +29,4 @@ pub mask-laid : (mask buffer one two short : List ℕ) (place count : ℕ) → l
     → two ≡ masked mask place count buffer
 unfolding masked onFirst onNumber
 mask-laid mask buffer one two short place count sixteen first number then =
-    let all : take 15 (drop 1 mask) ≡ drop 1 mask = take-all 15 (drop 1 mask) (omega (arith, length-drop 1 mask)) in
-    rw (then, first, number, all)
+    rw (then, first, number, mask-rest mask sixteen)

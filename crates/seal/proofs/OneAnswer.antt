@@ -1,8 +1,9 @@
 -- What sealing promises permits one answer and one buffer only.
 use Prim.Native.Nat.{ℕ}
-use mathlib.Core.Path.{_≡_, sym, ap, _∙_, refl}
+use mathlib.Core.Path.{_≡_, sym, _∙_, refl}
 use mathlib.Core.List.{List}
 use Rattle.octets.specs.Outcome.{Outcome, refused, given}
+use Rattle.octets.proofs.Outcome.{once}
 use Rattle.wire.specs.Numbers.{Acknowledged}
 use Rattle.wire.specs.Written.{Plain}
 use Rattle.packets.specs.Protection.{Keys}
@@ -21,5 +22,4 @@ answer-back (Sealing.Written n) = refl
 
 pub seal-once : {k : Keys} {a : Acknowledged} {p : Plain} {before : List ℕ} {r r′ : Sealing} {after after′ : List ℕ}
     → Seal k a p before r after → Seal k a p before r′ after′ → (r ≡ r′) × (after ≡ after′)
-seal-once {r = r} {r′ = r′} s t =
-    (sym (answer-back r) ∙ ap answerBack (s .answer ∙ sym (t .answer)) ∙ answer-back r′, s .output ∙ sym (t .output))
+seal-once s t = (once sealingAnswer answerBack answer-back (s .answer) (t .answer), s .output ∙ sym (t .output))

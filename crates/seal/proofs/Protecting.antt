@@ -6,16 +6,20 @@ use native.Mathlib.Omega.{arith}
 use lib.ListN.{length, take, drop, length-append}
 use lib.Seq.{take-at, drop-at}
 use Rattle.octets.specs.Octets.{bytes, part, laid, begun}
-use Rattle.octets.proofs.Buffers.{goes-on}
+use Rattle.octets.proofs.Parts.{part-front, regroup}
+use Rattle.octets.proofs.Buffers.{begun-front, goes-on}
 use Rattle.aes128.specs.Expansion.{cipher}
-use Rattle.wire.specs.Written.{Plain, firstByte, fields, front, plainHeader}
+use Rattle.wire.specs.Written.{Plain, smallest, initialFields, firstByte, fields, front, plainHeader}
 use Rattle.packets.specs.Protection.{Keys, nonce, onFirst, onNumber, sampleOf, masked}
-use Rattle.packets.specs.Packet.{bodyOf, packetOf}
+use Rattle.packets.specs.Packet.{bodyWith, bodyOf, packetOf}
 use Rattle.packets.specs.AesGcm.{aesGcm}
 use Rattle.packets.proofs.AesGcmLaws.{aes-gcm-laws}
-use Rattle.packets.proofs.Parts.{part-front}
-use Rattle.packets.proofs.Sealing.{body-length, packet-length, short-length, masked-length}
-use Rattle.seal.specs.Sealing.{bodyWith}
+use Rattle.packets.proofs.Sealing.{initial-length, body-length, packet-length, short-length, masked-length}
+
+-- where the fields before the number end, whatever Length they tell
+pub fields-end : (v counted place : ℕ) (destination source token : List ℕ) → place ≡ suc (length (initialFields v destination source token counted))
+    → place ≡ 9 + length destination + length source + length (smallest (length token)) + length token
+fields-end v counted place destination source token is = omega (arith, is, initial-length v destination source token counted)
 
 -- as many elements laid over others leave what stands before and behind them
 relaid : (a b b′ c : List ℕ) (at : ℕ) → at ≡ length a → length b′ ≡ length b → laid (a ++ (b ++ c)) at b′ ≡ a ++ b′ ++ c
@@ -31,9 +35,6 @@ mask-over mask f s rest b n is =
     let number : part (b ∷ (f ++ (s ++ rest))) (suc (length f)) n ≡ s
     = ap (take n) (drop-at f (s ++ rest) (length f) refl) ∙ take-at s rest n is in
     rw number (relaid (onFirst mask b ∷ f) s (onNumber mask s) rest (suc (length f)) refl (masked-length mask s))
-
-regroup : (a b c d : List ℕ) → a ++ b ++ c ++ d ≡ a ++ (b ++ (c ++ d))
-regroup a b c d = simp append-assoc
 
 module _ (k : Keys) (p : Plain) where
   abbrev v : ℕ
@@ -53,15 +54,15 @@ module _ (k : Keys) (p : Plain) where
 
   -- plain header and body, before the mask
   body-behind : (out one two : List ℕ) (place : ℕ) → place ≡ length (front v p) → one ≡ begun header out
-      → two ≡ laid one (place + p .numberLength) (bodyWith (k .key) (nonce (k .iv) (p .packetNumber)) (take (place + p .numberLength) one) (p .payload))
+      → two ≡ laid one (place + p .numberLength) (bodyWith aesGcm (k .key) (nonce (k .iv) (p .packetNumber)) (take (place + p .numberLength) one) (p .payload))
       → two ≡ begun (header ++ body) out
-  unfolding bodyWith bodyOf
+  unfolding bodyOf
   body-behind out one two place here begins then =
       let end : place + p .numberLength ≡ length header = omega (arith, header-length) in
       let plain : take (place + p .numberLength) one ≡ header
-      = rw begins (take-at header (drop (length header) out) (place + p .numberLength) (sym end)) in
+      = rw begins (begun-front header out (place + p .numberLength) (sym end)) in
       goes-on header body out one two (place + p .numberLength) begins
-      (then ∙ ap (λ (h : List ℕ). laid one (place + p .numberLength) (bodyWith (k .key) (nonce (k .iv) (p .packetNumber)) h (p .payload))) plain) end
+      (then ∙ ap (λ (h : List ℕ). laid one (place + p .numberLength) (bodyWith aesGcm (k .key) (nonce (k .iv) (p .packetNumber)) h (p .payload))) plain) end
 
   -- the sample reaches into the tag at the furthest
   sample-inside : (rest : List ℕ) → 4 ≤ p .numberLength + length (p .payload)
@@ -74,7 +75,7 @@ module _ (k : Keys) (p : Plain) where
   pub protected-laid : (out one two mask three : List ℕ) (place : ℕ) → 4 ≤ p .numberLength + length (p .payload)
       → place ≡ length (front v p)
       → one ≡ begun header out
-      → two ≡ laid one (place + p .numberLength) (bodyWith (k .key) (nonce (k .iv) (p .packetNumber)) (take (place + p .numberLength) one) (p .payload))
+      → two ≡ laid one (place + p .numberLength) (bodyWith aesGcm (k .key) (nonce (k .iv) (p .packetNumber)) (take (place + p .numberLength) one) (p .payload))
       → mask ≡ cipher (k .hp) (sampleOf two place)
       → three ≡ masked mask place (p .numberLength) two
       → three ≡ begun (packetOf aesGcm k p) out

@@ -1,11 +1,10 @@
 -- What sealing promises: its answer, and the lent buffer afterwards.
 use Prim.Native.Nat.{ℕ, _+_, _≤_}
 use mathlib.Core.Path.{_≡_}
-use mathlib.Core.List.{List, _++_}
+use mathlib.Core.List.{List}
 use lib.ListN.{length}
 use Rattle.octets.specs.Outcome.{Outcome, refused, given}
 use Rattle.octets.specs.Octets.{begun, placed, lengthGiven}
-use Rattle.gcm.specs.Gcm.{stream, tag}
 use Rattle.wire.specs.Numbers.{Acknowledged}
 use Rattle.wire.specs.Header.{limit, longestId}
 use Rattle.wire.specs.Written.{Plain, smallest, lengthOf, front, plainHeader}
@@ -41,7 +40,3 @@ pub record Writable (p : Plain) (buffer : List ℕ) : Type 0 where
 pub record HeaderWritten (v : ℕ) (p : Plain) (before after : List ℕ) (place : ℕ) : Type 0 where
   pub holds : after ≡ begun (plainHeader v p) before
   pub stands : place ≡ length (front v p)
-
--- the encrypted payload, and the tag over a header and it
-unfoldable pub bodyWith : (key once header payload : List ℕ) → List ℕ
-bodyWith key once header payload = stream key once payload ++ tag key once header (stream key once payload)

@@ -1,6 +1,9 @@
 // Sealing: RFC 9001 section 5, as document 01 has it written.
 use octets::refusal;
 use packets::Keys;
+use wire::header::LIMIT;
+use wire::header::LONGEST_ID;
+use wire::header::TAG_LENGTH;
 use wire::number::Acknowledged;
 use wire::number::FullPn;
 use wire::number::Shortened;
@@ -15,15 +18,9 @@ ghost use Rattle.wire.specs.Written.{smallest};
 ghost use Rattle.wire.specs.Answers.{acknowledgedOf};
 ghost use Rattle.packets.specs.KeyRecord.{keysOf};
 ghost use Rattle.packets.specs.Protection.{masked};
-ghost use Rattle.packets.specs.Packet.{packetOf};
+ghost use Rattle.packets.specs.Packet.{bodyWith, packetOf};
 ghost use Rattle.packets.specs.AesGcm.{aesGcm};
-ghost use Rattle.seal.specs.Sealing.{bodyWith, sizeOf, Writable, HeaderWritten, Seal};
-
-// The largest packet that is written.
-const LIMIT: usize = 1500;
-
-// The longest connection ID.
-const LONGEST_ID: usize = 20;
+ghost use Rattle.seal.specs.Sealing.{sizeOf, Writable, HeaderWritten, Seal};
 
 // What sealing answers: a refusal's number, or the packet's length.
 pub enum Sealing {
@@ -46,7 +43,7 @@ fn write_header(
     ensures { λ r. ⌜ HeaderWritten version (record { destination = now (destination .entry); source = now (source .entry); token = now (token .entry); payload = now (payload .entry); packetNumber = number; numberLength = count }) (now (buffer .entry)) (now (buffer .exit)) r ⌝ }
 {
     let first = 0xc0 + wire::version::initial_type(version) * 16 + (count - 1) as u8;
-    let counted = count + payload.len() + 16;
+    let counted = count + payload.len() + TAG_LENGTH;
     let place = wire::writing::write_initial(
         buffer,
         first,
@@ -86,7 +83,7 @@ fn tag_over(
 // Section 5.3: the payload encrypted behind a header that stands at the buffer's start up to `at`, and the tag over both.
 fn write_body(key: &[u8; 16], nonce: &[u8; 12], payload: &[u8], buffer: &mut [u8], at: usize)
     requires { ⌜ (at + length (now payload) + 16 ≤ length (now buffer)) × (at + length (now payload) ≤ limit) ⌝ }
-    ensures { λ _. ⌜ now (buffer .exit) ≡ laid (now (buffer .entry)) at (bodyWith (now (key .entry)) (now (nonce .entry)) (take at (now (buffer .entry))) (now (payload .entry))) ⌝ }
+    ensures { λ _. ⌜ now (buffer .exit) ≡ laid (now (buffer .entry)) at (bodyWith aesGcm (now (key .entry)) (now (nonce .entry)) (take at (now (buffer .entry))) (now (payload .entry))) ⌝ }
 {
     let schedule = aes128::expand_key(key);
     gcm::counter::crypt(&schedule, nonce, payload, buffer, at);
@@ -146,7 +143,12 @@ fn size_of(count: usize, destination: usize, source: usize, token: usize, payloa
     requires { ⌜ (count ≤ 4) × (destination ≤ limit) × (source ≤ limit) × (token ≤ limit) × (payload ≤ limit) ⌝ }
     ensures { λ r. ⌜ r ≡ 9 + destination + source + length (smallest token) + token + (count + payload + 16) ⌝ }
 {
-    9 + destination + source + wire::writing::smallest_form(token) + token + (count + payload + 16)
+    9
+        + destination
+        + source
+        + wire::writing::smallest_form(token)
+        + token
+        + (count + payload + TAG_LENGTH)
 }
 
 // A packet sealed at the buffer's start, its number in `count` bytes; the answer is its length, and the bytes behind it stay.

@@ -6,6 +6,7 @@ use native.Mathlib.Omega.{arith}
 use lib.ListN.{length, take, drop, length-append, length-drop, take-append-drop}
 use lib.Seq.{take-all, take-append-le, drop-append-le, length-take-le, drop-drop}
 use Rattle.octets.specs.Octets.{part}
+use Rattle.octets.proofs.Parts.{to-end}
 use Rattle.sha256.specs.Constants.{H⁰}
 use Rattle.sha256.specs.Sha256.{parsed, compressed, absorbed, padding, digest, finished, hash}
 
@@ -76,7 +77,7 @@ finished-is h v r m n at e ev er =
     let inside : at ≤ length m = omega arith in
     let count : length (take at m) ≡ 64 * (length m / 64) = length-take-le at m inside ∙ omega arith in
     let tail : length (drop at m) < 64 = omega (arith, length-drop at m) in
-    let rest : part m at (length m - at) ≡ drop at m = take-all (length m - at) (drop at m) (omega (arith, length-drop at m)) in
+    let rest : part m at (length m - at) ≡ drop at m = to-end m at in
     let p : List ℕ = padding (n + length m) in
     let front : absorbed h m ≡ absorbed h (take at m) =
     ap (absorbed h) (sym (take-append-drop at m))

@@ -1,18 +1,19 @@
 -- Sections 16 and 17.2: what reading one field comes to, by what the tests show; and where a field that is found stands.
-use Prim.Native.Nat.{ℕ, zero, suc, _+_, _-_, _/_, _^_, _≤_, _<_}
+use Prim.Native.Nat.{ℕ, _+_, _/_, _^_, _≤_, _<_}
 use mathlib.Core.Path.{_≡_, sym, ap}
-use mathlib.Core.List.{List, [], _∷_}
+use mathlib.Core.List.{List}
 use native.Mathlib.Omega.{arith}
-use lib.Dec.{leb, lit<}
-use lib.ListN.{length, getD, take, drop, length-drop}
-use lib.Seq.{take-all, length-take-le, getD-drop}
+use lib.Dec.{leb}
+use lib.ListN.{length, getD, drop, length-drop}
 use borrow.Author.Tests.{le-leb, lt-leb, leb-true}
-use Rattle.octets.specs.Outcome.{refused, given}
+use Rattle.octets.specs.Outcome.{refused, given, _>>_}
 use Rattle.octets.specs.Octets.{Bytes, number, part}
+use Rattle.octets.proofs.Parts.{part-length}
+use Rattle.octets.proofs.Bytes.{part-bytes}
 use Rattle.octets.proofs.Numbers.{number-lt}
 use Rattle.octets.proofs.Outcome.{passed, stepped, given-same}
 use Rattle.wire.specs.Integer.{Integer, integer}
-use Rattle.wire.specs.Header.{Place, behind, longestId, leastLength, idAt, integerAt, fieldAt, restAt}
+use Rattle.wire.specs.Header.{Place, behind, whole, longestId, leastLength, idAt, integerAt, fieldAt, restAt}
 
 -- a field that was looked for from a place on stands behind that place, and all of it within the datagram
 pub record Within (d : List ℕ) (at : ℕ) (p : Place) : Type 0 where
@@ -28,24 +29,18 @@ integer-taken s is =
     let same = ap (λ (i : Integer). i .taken) (given-same (all .1)) in
     omega (arith, leb-true (2 ^ (getD s 0 0 / 64)) (length s) (all .0))
 
--- the first of some bytes are bytes
-take-bytes : (n : ℕ) (s : List ℕ) → Bytes s → Bytes (take n s)
-take-bytes zero s h i = lit< tt
-take-bytes (suc n) [] h i = lit< tt
-take-bytes (suc n) (x ∷ s) h zero = h 0
-take-bytes (suc n) (x ∷ s) h (suc i) = take-bytes n s (λ j. h (suc j)) i
-
 -- what four bytes spell fits a word of 32 bits
 pub four-bytes : (d : List ℕ) (at : ℕ) → Bytes d → at + 4 ≤ length d → number (part d at 4) < 2 ^ 32
 four-bytes d at h fits =
-    let four = length-take-le 4 (drop at d) (omega (arith, length-drop at d)) in
-    rw four at (number-lt (part d at 4) (take-bytes 4 (drop at d) (λ i. rw (getD-drop at d i 0) (h (at + i)))))
+    rw (part-length d at 4 fits) at (number-lt (part d at 4) (part-bytes d at 4 h))
+
+-- as many bytes as were asked for stood at the place that was given
+whole-given : (d : List ℕ) (q : Place) {p : Place} → (whole d (q .at) (q .len) >> given q) ≡ given p → (q ≡ p) × (behind q ≤ length d)
+whole-given d q is =
+    let all = passed 3 (leb (behind q) (length d)) _ is in
+    (given-same (all .1), leb-true (behind q) (length d) (all .0))
 
 module _ (d : List ℕ) (at : ℕ) where
-  -- the part from a place to the end
-  pub to-end : part d at (length d - at) ≡ drop at d
-  to-end = take-all (length d - at) (drop at d) (omega (arith, length-drop at d))
-
   -- ---- a length byte and as many bytes
   pub id-none : length d ≤ at → idAt d at ≡ refused 3
   unfolding idAt
@@ -71,11 +66,8 @@ module _ (d : List ℕ) (at : ℕ) where
   id-within is =
       let there = passed 3 (leb (at + 1) (length d)) _ (sym is) in
       let fair = passed 5 (leb (getD d at 0) longestId) _ (there .1) in
-      let all = passed 3 (leb (at + 1 + getD d at 0) (length d)) _ (fair .1) in
-      let same = given-same (all .1) in
-      let starts = ap (λ (p : Place). p .at) same in
-      let spans = ap (λ (p : Place). p .len) same in
-      record { after = omega arith; inside = omega (arith, leb-true (at + 1 + getD d at 0) (length d) (all .0)) }
+      let all = whole-given d (record { at = at + 1; len = getD d at 0 }) (fair .1) in
+      rw (← (all .0)) (record { after = omega arith; inside = all .1 })
 
   -- ---- an integer
   pub integer-refused : {n : ℕ} → refused n ≡ integer (drop at d) → integerAt d at ≡ refused n
@@ -113,12 +105,8 @@ module _ (d : List ℕ) (at : ℕ) where
   unfolding fieldAt
   field-within start is =
       let step = stepped (integerAt d at) _ (sym is) in
-      let all = passed 3 (leb (behind (step .0)) (length d)) _ (step .2) in
-      let same = given-same (all .1) in
-      let starts = ap (λ (p : Place). p .at) same in
-      let spans = ap (λ (p : Place). p .len) same in
-      let end = integer-end start (sym (step .1)) in
-      record { after = omega arith; inside = omega (arith, leb-true (behind (step .0)) (length d) (all .0)) }
+      let all = whole-given d (step .0) (step .2) in
+      rw (← (all .0)) (record { after = integer-end start (sym (step .1)) .0; inside = all .1 })
 
   -- ---- the rest of the packet
   pub rest-refused : {n : ℕ} → refused n ≡ integerAt d at → restAt d at ≡ refused n
@@ -143,10 +131,5 @@ module _ (d : List ℕ) (at : ℕ) where
   rest-within start is =
       let step = stepped (integerAt d at) _ (sym is) in
       let fair = passed 7 (leb leastLength (step .0 .len)) _ (step .2) in
-      let all = passed 3 (leb (behind (step .0)) (length d)) _ (fair .1) in
-      let same = given-same (all .1) in
-      let starts = ap (λ (p : Place). p .at) same in
-      let spans = ap (λ (p : Place). p .len) same in
-      let end = integer-end start (sym (step .1)) in
-      let least = leb-true leastLength (step .0 .len) (fair .0) in
-      (record { after = omega arith; inside = omega (arith, leb-true (behind (step .0)) (length d) (all .0)) }, omega arith)
+      let all = whole-given d (step .0) (fair .1) in
+      rw (← (all .0)) (record { after = integer-end start (sym (step .1)) .0; inside = all .1 }, leb-true leastLength (step .0 .len) (fair .0))

@@ -3,12 +3,12 @@ use Prim.Native.Nat.{ℕ, suc, _+_, _/_, _%_, _^_, _≤_, _<_}
 use mathlib.Core.Path.{_≡_, refl, sym, ap, _∙_}
 use mathlib.Core.List.{List, [], _∷_, _++_, append-assoc}
 use mathlib.Core.Bool.{Bool, true}
-use native.Mathlib.Nat.{mod-eq-of-lt}
 use native.Mathlib.Omega.{arith}
 use lib.ListN.{length, getD, length-append}
 use Rattle.octets.specs.Outcome.{given}
 use Rattle.octets.specs.Octets.{bytes, number, part}
-use Rattle.octets.proofs.Numbers.{bytes-length, number-bytes}
+use Rattle.octets.proofs.Parts.{regroup}
+use Rattle.octets.proofs.Numbers.{bytes-length, number-back}
 use Rattle.wire.specs.Versions.{Version, known, version}
 use Rattle.wire.specs.Integer.{integer}
 use Rattle.wire.specs.Header.{Long, Header, limit, longestId, leastLength, idAt, fieldAt, restAt, versionOf, long, header}
@@ -73,9 +73,6 @@ longPlaces v destination source = record {
 abbrev fromDestination : (destination source rest : List ℕ) → List ℕ
 fromDestination destination source rest = withLength destination ++ (withLength source ++ rest)
 
-regroup : (a b c d : List ℕ) → a ++ b ++ c ++ d ≡ a ++ (b ++ (c ++ d))
-regroup a b c d = simp append-assoc
-
 module _ (v first : ℕ) (destination source d rest : List ℕ) (is : d ≡ first ∷ longFields v destination source ++ rest) where
   at-version : At d 1 (bytes 4 v ++ fromDestination destination source rest)
   unfolding longFields
@@ -112,7 +109,7 @@ module _ (takes : ℕ → Bool) (type : Version → ℕ) (v first : ℕ) (destin
       let byte : getD d 0 0 ≡ first = rw (w .is) in
       let value = ap number (part-at d 1 4 (bytes 4 v) (fromDestination destination source rest) there (bytes-length 4 v)) in
       version-found d (omega arith) (w .fits) (omega (arith, w .form)) (omega arith)
-      ∙ ap given (value ∙ number-bytes 4 v ∙ mod-eq-of-lt (version-fits v (w .ours)))
+      ∙ ap given (value ∙ number-back 4 v (version-fits v (w .ours)))
 
   pub long-read : long takes type d ≡ given (longPlaces v destination source)
   long-read =

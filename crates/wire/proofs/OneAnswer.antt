@@ -1,8 +1,9 @@
 -- Each contract fixes its answer: any two answers that it permits are equal.
 use Prim.Native.Nat.{ℕ}
-use mathlib.Core.Path.{_≡_, refl, sym, ap, _∙_}
+use mathlib.Core.Path.{_≡_, refl, sym, _∙_}
 use mathlib.Core.List.{List}
 use Rattle.octets.specs.Outcome.{Outcome, refused, given}
+use Rattle.octets.proofs.Outcome.{once}
 use Rattle.wire.specs.Integer as Section16
 use Rattle.wire.specs.Header as Section17
 use Rattle.wire.specs.Answers.{integerAnswer, smallestAnswer, shortenedAnswer, recoveredAnswer, ReadInteger, SmallestLength, Shorten, Recover}
@@ -22,10 +23,6 @@ use Rattle.wire.specs.declared.header.Place.{Place}
 use Rattle.wire.specs.declared.header.Header.{Header}
 use Rattle.wire.specs.declared.header.Reading.{Reading}
 use Rattle.wire.specs.declared.header.Reading.the-variants as Reading
-
--- what stands for a meaning is fixed by it, where the meaning gives it back
-pub once : {A B : Type 0} (stands : A → B) (back : B → A) → ((a : A) → back (stands a) ≡ a) → {b : B} {x y : A} → stands x ≡ b → stands y ≡ b → x ≡ y
-once stands back returns {x = x} {y = y} p q = sym (returns x) ∙ ap back (p ∙ sym q) ∙ returns y
 
 -- ---- integers
 integerBack : Outcome Section16.Integer → Integer
@@ -78,7 +75,7 @@ pub recover-once : {e n : ℕ} {t : TruncatedPn} {r r′ : Recovered} → Recove
 recover-once a b = once recoveredAnswer recoveredBack recovered-back (a .answer) (b .answer)
 
 -- ---- headers
-placeBack : Section17.Place → Place
+abbrev pub placeBack : Section17.Place → Place
 placeBack p = record { at = p .at; len = p .len }
 
 readingBack : Outcome Section17.Header → Reading
@@ -93,7 +90,7 @@ readingBack (given h) = Reading.Read (record {
 })
 
 reading-back : (r : Reading) → readingBack (readingAnswer r) ≡ r
-unfolding readingBack placeBack
+unfolding readingBack
 reading-back (Reading.Refused n) = refl
 reading-back (Reading.Read h) = refl
 

@@ -4,7 +4,7 @@ use mathlib.Core.Path.{_≡_, refl}
 use mathlib.Core.Bool.{Bool, true, false, _||_, cond, false≢true}
 use lib.Dec.{eqb, lit<, lit≤}
 use borrow.Author.Tests.{eq-eqb, ne-eqb, eqb-true}
-use Rattle.wire.specs.Versions.{version1, draft2, known, version}
+use Rattle.wire.specs.Versions.{Version, version1, draft2, known, version}
 
 -- ---- version 1, and any other
 module _ (v : ℕ) where
@@ -34,19 +34,20 @@ module _ (v : ℕ) where
       by false true p q h = rw (eqb-true v 0x709a50c4 q) (lit< tt)
       by false false p q h = absurd (false≢true h)
 
+  -- what holds of both rows holds of the version's
+  of-both : (P : Version → Type 0) → P version1 → P draft2 → P (version v)
+  unfolding version
+  of-both P one two = by (eqb v (version1 .number))
+    where
+      by : (a : Bool) → P (cond a version1 draft2)
+      by true = one
+      by false = two
+
   -- a type fits two bits
   pub initial-fits : version v .initialType ≤ 3
-  unfolding version version1 draft2
-  initial-fits = by (eqb v 1)
-    where
-      by : (a : Bool) → cond a version1 draft2 .initialType ≤ 3
-      by true = lit≤ tt
-      by false = lit≤ tt
+  unfolding version1 draft2
+  initial-fits = of-both (λ row. row .initialType ≤ 3) (lit≤ tt) (lit≤ tt)
 
   pub retry-fits : version v .retryType ≤ 3
-  unfolding version version1 draft2
-  retry-fits = by (eqb v 1)
-    where
-      by : (a : Bool) → cond a version1 draft2 .retryType ≤ 3
-      by true = lit≤ tt
-      by false = lit≤ tt
+  unfolding version1 draft2
+  retry-fits = of-both (λ row. row .retryType ≤ 3) (lit≤ tt) (lit≤ tt)

@@ -16,6 +16,10 @@ limit = 1500
 abbrev pub longestId : ℕ
 longestId = 20
 
+-- RFC 9001 section 5.3: the tag's length
+abbrev pub tagLength : ℕ
+tagLength = 16
+
 -- Length counts a number and payload that reach the sample's end, so 20 bytes at the least
 abbrev pub leastLength : ℕ
 leastLength = 20

@@ -4,7 +4,7 @@ use mathlib.Core.List.{List}
 use lib.Dec.{leb}
 use lib.ListN.{length, getD, take}
 use Rattle.octets.specs.Outcome.{Outcome, given, unless, _>>=_, _>>_}
-use Rattle.octets.specs.Octets.{bytes, number}
+use Rattle.octets.specs.Octets.{number}
 
 pub record Integer : Type 0 where
   pub value : ℕ

@@ -6,6 +6,7 @@ use lib.Dec.{ltb}
 use lib.ListN.{length}
 use Rattle.octets.specs.Octets.{bytes}
 use Rattle.wire.specs.Versions.{version}
+use Rattle.wire.specs.Header.{tagLength}
 
 -- ---- section 16: integers in two bytes, and in the fewest
 unfoldable pub two : ℕ → List ℕ
@@ -52,7 +53,7 @@ firstByte v p = longFirst (version v .initialType) (p .numberLength - 1)
 
 -- Length counts number, payload and tag
 abbrev pub lengthOf : Plain → ℕ
-lengthOf p = p .numberLength + length (p .payload) + 16
+lengthOf p = p .numberLength + length (p .payload) + tagLength
 
 abbrev pub fields : (v : ℕ) → Plain → List ℕ
 fields v p = initialFields v (p .destination) (p .source) (p .token) (lengthOf p)

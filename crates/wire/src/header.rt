@@ -13,11 +13,14 @@ ghost use Rattle.wire.specs.Versions as Constants;
 ghost use Rattle.wire.specs.Header.{idAt, integerAt, fieldAt, restAt, versionOf, judged, long, header};
 ghost use Rattle.wire.specs.HeaderAnswers.{takes, typeOf, foundAnswer, versionAnswer, longAnswer, readingAnswer, ReadHeader, HeaderDestination, HeaderSource, HeaderToken};
 
-// The largest datagram.
-const LIMIT: usize = 1500;
+// The largest datagram, and the largest packet that is written.
+pub const LIMIT: usize = 1500;
 
 // The longest connection ID.
-const LONGEST_ID: usize = 20;
+pub const LONGEST_ID: usize = 20;
+
+// RFC 9001 section 5.3: the tag's length.
+pub const TAG_LENGTH: usize = 16;
 
 // The smallest Length: a number and payload that reach the sample's end.
 const LEAST_LENGTH: usize = 20;

@@ -6,7 +6,7 @@ ghost use Rattle.wire.specs.Numbers.{coverable, gap, decoded, numbers, w
 ghost use Rattle.wire.specs.Answers.{acknowledgedOf, gapAnswer, SmallestLength, Shorten, Recover};
 
 // How many full numbers there are: they run from 0 to 2^62 - 1.
-const NUMBERS: u64 = 1 << 62;
+pub const NUMBERS: u64 = 1 << 62;
 
 // The smallest gap that no length covers.
 const UNCOVERED: u64 = 1 << 31;

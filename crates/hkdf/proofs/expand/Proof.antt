@@ -7,8 +7,9 @@ use native.Mathlib.Omega.{arith}
 use lib.ListN.{length, take, replicate, length-take, length-append}
 use lib.Seq.{length-take-le}
 use Rattle.octets.specs.Octets.{bytes, laid}
+use Rattle.octets.proofs.Buffers.{begun-front}
 use Rattle.hkdf.specs.Hkdf.{hmac}
-use Rattle.hkdf.proofs.Info.{text-written, begun-front, first-block}
+use Rattle.hkdf.proofs.Info.{text-written, first-block}
 use Rattle.hkdf.proofs.expand.Statement.{statement}
 use Rattle.hkdf.proofs.expand.Tie as tie
 

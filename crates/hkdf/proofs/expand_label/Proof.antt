@@ -6,8 +6,9 @@ use borrow.Author.Needs.{needs}
 use native.Mathlib.Omega.{arith}
 use lib.ListN.{length, take, replicate, length-take}
 use lib.Seq.{length-take-le}
+use Rattle.octets.proofs.Buffers.{begun-front}
 use Rattle.hkdf.specs.Hkdf.{T, info}
-use Rattle.hkdf.proofs.Info.{begun-front, info-length, expand-label-is}
+use Rattle.hkdf.proofs.Info.{info-length, expand-label-is}
 use Rattle.hkdf.proofs.expand_label.Statement.{statement}
 use Rattle.hkdf.proofs.expand_label.Tie as tie
 

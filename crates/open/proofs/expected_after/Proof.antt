@@ -1,5 +1,4 @@
 -- The larger of the two, by the test.
-use Prim.Native.Nat.{_-_}
 use borrow.Author.Needs.{needs}
 use native.Mathlib.Omega.{arith}
 use Rattle.open.proofs.expected_after.Statement.{statement}

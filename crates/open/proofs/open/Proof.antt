@@ -1,5 +1,4 @@
 -- What is found is refused or judged by its tag; then it is written and the expected number moves.
-use Prim.Native.Nat.{_-_}
 use mathlib.Core.Path.{subst}
 use borrow.Author.Needs.{needs}
 use borrow.Author.Tests.{not-true, not-false}

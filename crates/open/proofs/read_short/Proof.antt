@@ -1,6 +1,6 @@
 -- What is read of bytes spells them.
 use borrow.Author.Needs.{needs}
-use Rattle.open.proofs.Spelling.{spells}
+use Rattle.open.proofs.Masking.{spells}
 use Rattle.open.proofs.read_short.Statement.{statement}
 use Rattle.open.proofs.read_short.Tie as tie
 

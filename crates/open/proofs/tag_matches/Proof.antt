@@ -1,5 +1,4 @@
 -- The tag of the pieces is the tag of the plain header and the ciphertext.
-use Prim.Native.Nat.{_-_}
 use borrow.Author.Needs.{needs}
 use native.Mathlib.Omega.{arith}
 use lib.ListN.{replicate, length-take, length-drop}

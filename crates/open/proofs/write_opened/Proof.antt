@@ -1,5 +1,4 @@
 -- First byte, middle, number and payload, each behind the other.
-use Prim.Native.Nat.{_-_}
 use borrow.Author.Needs.{needs}
 use Rattle.open.proofs.Pieces.{writes}
 use Rattle.open.proofs.write_opened.Statement.{statement}

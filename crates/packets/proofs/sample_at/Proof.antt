@@ -5,7 +5,7 @@ use borrow.Author.Needs.{needs}
 use native.Mathlib.Omega.{arith}
 use lib.ListN.{replicate}
 use Rattle.packets.specs.Protection.{sampleOf}
-use Rattle.packets.proofs.Filled.{whole-part}
+use Rattle.octets.proofs.Buffers.{whole-part}
 use Rattle.packets.proofs.sample_at.Statement.{statement}
 use Rattle.packets.proofs.sample_at.Tie as tie
 

@@ -6,10 +6,9 @@ use borrow.Author.Tests.{not-true, not-false}
 use native.Mathlib.Omega.{arith}
 use lib.Seq.{length-take-le}
 use Rattle.wire.specs.HeaderAnswers.{foundAnswer, longAnswer}
-use Rattle.wire.proofs.Fields.{to-end}
+use Rattle.octets.proofs.Parts.{front-short, to-end}
 use Rattle.wire.proofs.Headers.{long-there}
 use Rattle.octets.specs.Octets.{same}
-use Rattle.retry.proofs.Packets.{front-short}
 use Rattle.retry.proofs.Refusals.{token-there, check-long-original, check-no-long, check-no-token, check-other-tag, check-given}
 use Rattle.retry.proofs.check_retry.Statement.{statement}
 use Rattle.retry.proofs.check_retry.Tie as tie

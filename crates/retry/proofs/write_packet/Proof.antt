@@ -7,7 +7,8 @@ use lib.ListN.{length}
 use lib.Seq.{length-take-le}
 use Rattle.wire.proofs.Forms.{long-length}
 use Rattle.wire.proofs.Versions.{retry-fits}
-use Rattle.retry.proofs.Packets.{front-short, token-laid, tag-laid}
+use Rattle.octets.proofs.Parts.{front-short}
+use Rattle.retry.proofs.Packets.{token-laid, tag-laid}
 use Rattle.retry.proofs.write_packet.Statement.{statement}
 use Rattle.retry.proofs.write_packet.Tie as tie
 

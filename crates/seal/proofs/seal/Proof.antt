@@ -3,14 +3,10 @@ use mathlib.Core.Path.{sym, ap, _∙_}
 use borrow.Author.Needs.{needs}
 use borrow.Author.Tests.{not-true, not-false}
 use native.Mathlib.Omega.{arith}
-use lib.ListN.{length}
 use Rattle.wire.specs.Answers.{acknowledgedOf, shortenedAnswer}
-use Rattle.wire.specs.Written.{Plain}
-use Rattle.packets.specs.KeyRecord.{keysOf}
 use Rattle.packets.specs.AesGcm.{aesGcm}
-use Rattle.packets.proofs.AesGcmLaws.{aes-gcm-laws}
-use Rattle.packets.proofs.Sealing.{seal-version, seal-number, seal-destination, seal-source, seal-short, seal-size, seal-room, seal-given, packet-length, front-length, shortening}
-use Rattle.seal.proofs.Answers.{refuse, write}
+use Rattle.packets.proofs.Sealing.{seal-version, seal-number, seal-destination, seal-source, seal-short, shortening}
+use Rattle.seal.proofs.Answers.{refuse, refuse-size, refuse-room, written}
 use Rattle.seal.proofs.seal.Statement.{statement}
 use Rattle.seal.proofs.seal.Tie as tie
 
@@ -18,13 +14,7 @@ is-known-requires : tie.Need-is-known-requires
 is-known-requires c κs = search needs
 
 returns : tie.Need-returns
-returns c =
-    let a = c .before .before .before .before .before .before .before .args in
-    let k = keysOf (a .keys) in
-    let g = acknowledgedOf (a .acknowledged) in
-    let p : Plain = record { destination = a .destination .now; source = a .source .now; token = a .token .now; payload = a .payload .now; packetNumber = a .number .0; numberLength = a .count } in
-    let out = a .out .now in
-    refuse k g p out (seal-version aesGcm k g p (length out) (sym (c .before .is-known .ensures) ∙ not-true _ (c .if1 .taken)))
+returns c = refuse _ _ _ _ (seal-version aesGcm _ _ _ _ (sym (c .before .is-known .ensures) ∙ not-true _ (c .if1 .taken)))
 
 shorten-requires : tie.Need-shorten-requires
 shorten-requires c κs = search needs
@@ -34,39 +24,24 @@ enum-known-why c = search needs
 
 returns-2 : tie.Need-returns-2
 returns-2 c =
-    let a = c .before .before .before .before .before .before .before .before .before .before .before .args in
-    let k = keysOf (a .keys) in
-    let g = acknowledgedOf (a .acknowledged) in
-    let p : Plain = record { destination = a .destination .now; source = a .source .now; token = a .token .now; payload = a .payload .now; packetNumber = a .number .0; numberLength = a .count } in
-    let out = a .out .now in
     let ours = sym (c .before .before .before .before .before .is-known .ensures) ∙ not-false _ (c .before .before .before .before .if1 .left) in
     let why = sym (ap shortenedAnswer (c .before .why .given .1)) ∙ c .before .before .before .shorten .ensures .answer in
-    refuse k g p out (seal-number aesGcm k g p (length out) ours why)
+    refuse _ _ _ _ (seal-number aesGcm _ _ _ _ ours why)
 
 enum-told : tie.Need-enum-told
 enum-told c = search needs
 
 returns-3 : tie.Need-returns-3
 returns-3 c =
-    let a = c .before .before .before .before .before .before .before .before .before .before .before .args in
-    let k = keysOf (a .keys) in
-    let g = acknowledgedOf (a .acknowledged) in
-    let p : Plain = record { destination = a .destination .now; source = a .source .now; token = a .token .now; payload = a .payload .now; packetNumber = a .number .0; numberLength = a .count } in
-    let out = a .out .now in
     let ours = sym (c .before .before .before .before .before .is-known .ensures) ∙ not-false _ (c .before .before .before .before .if1 .left) in
     let short = sym (ap shortenedAnswer (c .before .enum-told .given .1)) ∙ c .before .before .before .shorten .ensures .answer in
-    refuse k g p out (seal-destination aesGcm k g p (length out) ours short (omega arith))
+    refuse _ _ _ _ (seal-destination aesGcm _ _ _ _ ours short (omega arith))
 
 returns-4 : tie.Need-returns-4
 returns-4 c =
-    let a = c .before .before .before .before .before .before .before .before .before .before .before .before .args in
-    let k = keysOf (a .keys) in
-    let g = acknowledgedOf (a .acknowledged) in
-    let p : Plain = record { destination = a .destination .now; source = a .source .now; token = a .token .now; payload = a .payload .now; packetNumber = a .number .0; numberLength = a .count } in
-    let out = a .out .now in
     let ours = sym (c .before .before .before .before .before .before .is-known .ensures) ∙ not-false _ (c .before .before .before .before .before .if1 .left) in
     let short = sym (ap shortenedAnswer (c .before .before .enum-told .given .1)) ∙ c .before .before .before .before .shorten .ensures .answer in
-    refuse k g p out (seal-source aesGcm k g p (length out) ours short (omega arith) (omega arith))
+    refuse _ _ _ _ (seal-source aesGcm _ _ _ _ ours short (omega arith) (omega arith))
 
 add-if4 : tie.Need-add-if4
 add-if4 c =
@@ -77,40 +52,21 @@ add-if4 c =
 
 returns-5 : tie.Need-returns-5
 returns-5 c =
-    let a = c .before .before .before .before .before .before .before .before .before .before .before .before .before .args in
-    let k = keysOf (a .keys) in
-    let g = acknowledgedOf (a .acknowledged) in
-    let p : Plain = record { destination = a .destination .now; source = a .source .now; token = a .token .now; payload = a .payload .now; packetNumber = a .number .0; numberLength = a .count } in
-    let out = a .out .now in
     let ours = sym (c .before .before .before .before .before .before .before .is-known .ensures) ∙ not-false _ (c .before .before .before .before .before .before .if1 .left) in
     let short = sym (ap shortenedAnswer (c .before .before .before .enum-told .given .1)) ∙ c .before .before .before .before .before .shorten .ensures .answer in
-    refuse k g p out (seal-short aesGcm k g p (length out) ours short (omega arith) (omega arith) (omega arith))
+    refuse _ _ _ _ (seal-short aesGcm _ _ _ _ ours short (omega arith) (omega arith) (omega arith))
 
 returns-6 : tie.Need-returns-6
 returns-6 c =
-    let a = c .before .before .before .before .before .before .before .before .before .before .before .before .before .before .args in
-    let k = keysOf (a .keys) in
-    let g = acknowledgedOf (a .acknowledged) in
-    let p : Plain = record { destination = a .destination .now; source = a .source .now; token = a .token .now; payload = a .payload .now; packetNumber = a .number .0; numberLength = a .count } in
-    let out = a .out .now in
     let ours = sym (c .before .before .before .before .before .before .before .before .is-known .ensures) ∙ not-false _ (c .before .before .before .before .before .before .before .if1 .left) in
     let short = sym (ap shortenedAnswer (c .before .before .before .before .enum-told .given .1)) ∙ c .before .before .before .before .before .before .shorten .ensures .answer in
-    let size = packet-length aesGcm k p aes-gcm-laws in
-    let front = front-length (k .version) p in
-    refuse k g p out (seal-size aesGcm k g p (length out) ours short (omega arith) (omega arith) (omega arith) (omega arith))
+    refuse-size _ _ _ _ ours short (omega arith) (omega arith) (omega arith) (omega arith)
 
 returns-7 : tie.Need-returns-7
 returns-7 c =
-    let a = c .before .before .before .before .before .before .before .before .before .before .before .before .before .before .before .args in
-    let k = keysOf (a .keys) in
-    let g = acknowledgedOf (a .acknowledged) in
-    let p : Plain = record { destination = a .destination .now; source = a .source .now; token = a .token .now; payload = a .payload .now; packetNumber = a .number .0; numberLength = a .count } in
-    let out = a .out .now in
     let ours = sym (c .before .before .before .before .before .before .before .before .before .is-known .ensures) ∙ not-false _ (c .before .before .before .before .before .before .before .before .if1 .left) in
     let short = sym (ap shortenedAnswer (c .before .before .before .before .before .enum-told .given .1)) ∙ c .before .before .before .before .before .before .before .shorten .ensures .answer in
-    let size = packet-length aesGcm k p aes-gcm-laws in
-    let front = front-length (k .version) p in
-    refuse k g p out (seal-size aesGcm k g p (length out) ours short (omega arith) (omega arith) (omega arith) (omega arith))
+    refuse-size _ _ _ _ ours short (omega arith) (omega arith) (omega arith) (omega arith)
 
 size-of-requires : tie.Need-size-of-requires
 size-of-requires c κs =
@@ -121,31 +77,17 @@ size-of-requires c κs =
 
 returns-8 : tie.Need-returns-8
 returns-8 c =
-    let a = c .before .before .before .before .before .before .before .before .before .before .before .before .before .before .before .before .before .args in
-    let k = keysOf (a .keys) in
-    let g = acknowledgedOf (a .acknowledged) in
-    let p : Plain = record { destination = a .destination .now; source = a .source .now; token = a .token .now; payload = a .payload .now; packetNumber = a .number .0; numberLength = a .count } in
-    let out = a .out .now in
     let ours = sym (c .before .before .before .before .before .before .before .before .before .before .before .is-known .ensures) ∙ not-false _ (c .before .before .before .before .before .before .before .before .before .before .if1 .left) in
     let short = sym (ap shortenedAnswer (c .before .before .before .before .before .before .before .enum-told .given .1)) ∙ c .before .before .before .before .before .before .before .before .before .shorten .ensures .answer in
-    let size = packet-length aesGcm k p aes-gcm-laws in
-    let front = front-length (k .version) p in
     let counted = c .before .size-of .ensures in
-    refuse k g p out (seal-size aesGcm k g p (length out) ours short (omega arith) (omega arith) (omega arith) (omega arith))
+    refuse-size _ _ _ _ ours short (omega arith) (omega arith) (omega arith) (omega arith)
 
 returns-9 : tie.Need-returns-9
 returns-9 c =
-    let a = c .before .before .before .before .before .before .before .before .before .before .before .before .before .before .before .before .before .before .args in
-    let k = keysOf (a .keys) in
-    let g = acknowledgedOf (a .acknowledged) in
-    let p : Plain = record { destination = a .destination .now; source = a .source .now; token = a .token .now; payload = a .payload .now; packetNumber = a .number .0; numberLength = a .count } in
-    let out = a .out .now in
     let ours = sym (c .before .before .before .before .before .before .before .before .before .before .before .before .is-known .ensures) ∙ not-false _ (c .before .before .before .before .before .before .before .before .before .before .before .if1 .left) in
     let short = sym (ap shortenedAnswer (c .before .before .before .before .before .before .before .before .enum-told .given .1)) ∙ c .before .before .before .before .before .before .before .before .before .before .shorten .ensures .answer in
-    let size = packet-length aesGcm k p aes-gcm-laws in
-    let front = front-length (k .version) p in
     let counted = c .before .before .size-of .ensures in
-    refuse k g p out (seal-room aesGcm k g p (length out) ours short (omega arith) (omega arith) (omega arith) (omega arith) (omega arith))
+    refuse-room _ _ _ _ ours short (omega arith) (omega arith) (omega arith) (omega arith) (omega arith)
 
 write-packet-requires : tie.Need-write-packet-requires
 write-packet-requires c κs =
@@ -160,17 +102,10 @@ same-length c = search needs
 
 returns-10 : tie.Need-returns-10
 returns-10 c =
-    let a = c .before .before .before .before .before .before .before .before .before .before .before .before .before .before .before .before .before .before .before .before .before .before .args in
-    let k = keysOf (a .keys) in
-    let g = acknowledgedOf (a .acknowledged) in
-    let p : Plain = record { destination = a .destination .now; source = a .source .now; token = a .token .now; payload = a .payload .now; packetNumber = a .number .0; numberLength = a .count } in
-    let out = a .out .now in
     let ours = sym (c .before .before .before .before .before .before .before .before .before .before .before .before .before .before .before .before .is-known .ensures) ∙ not-false _ (c .before .before .before .before .before .before .before .before .before .before .before .before .before .before .before .if1 .left) in
     let short = sym (ap shortenedAnswer (c .before .before .before .before .before .before .before .before .before .before .before .before .enum-told .given .1)) ∙ c .before .before .before .before .before .before .before .before .before .before .before .before .before .before .shorten .ensures .answer in
-    let size = packet-length aesGcm k p aes-gcm-laws in
-    let front = front-length (k .version) p in
     let counted = c .before .before .before .before .before .before .size-of .ensures in
-    write k g p out (seal-given aesGcm k g p (length out) ours short (omega arith) (omega arith) (omega arith) (omega arith) (omega arith)) (omega arith) (c .before .before .write-packet .ensures)
+    written _ _ _ _ ours short (omega arith) (omega arith) (omega arith) (omega arith) (omega arith) (omega arith) (c .before .before .write-packet .ensures)
 
 pub seal-spec : {M : Type 1} → statement M
 seal-spec =

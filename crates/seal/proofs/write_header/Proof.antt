@@ -8,7 +8,7 @@ use Rattle.octets.specs.Octets.{bytes}
 use Rattle.octets.proofs.Buffers.{goes-on}
 use Rattle.wire.specs.Written.{firstByte, initialFields}
 use Rattle.wire.proofs.Versions.{initial-fits}
-use Rattle.packets.proofs.Sealing.{initial-length}
+use Rattle.seal.proofs.Protecting.{fields-end}
 use Rattle.seal.proofs.write_header.Statement.{statement}
 use Rattle.seal.proofs.write_header.Tie as tie
 
@@ -41,7 +41,8 @@ write-initial-requires c κs = search needs
 
 store-requires : tie.Need-store-requires
 store-requires c κs =
-    (omega arith, omega (arith, c .before .before .before .write-initial .ensures .ends, c .before .before .before .write-initial .kept, initial-length (c .before .before .before .before .before .before .before .before .before .before .before .args .version) (c .before .before .before .before .before .before .before .before .before .before .before .args .destination .now) (c .before .before .before .before .before .before .before .before .before .before .before .args .source .now) (c .before .before .before .before .before .before .before .before .before .before .before .args .token .now) (c .before .before .before .before .before .before .before .before .before .before .before .args .count + length (c .before .before .before .before .before .before .before .before .before .before .before .args .payload .now) + 16)))
+    let written = c .before .before .before .write-initial in
+    (omega arith, omega (arith, fields-end _ _ _ _ _ _ (written .ensures .ends), written .kept))
 
 same-length : tie.Need-same-length
 same-length c = search needs

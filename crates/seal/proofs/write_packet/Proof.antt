@@ -8,8 +8,9 @@ use lib.ListN.{take}
 use Rattle.octets.specs.Octets.{laid}
 use Rattle.wire.specs.Written.{Plain}
 use Rattle.packets.specs.KeyRecord.{keysOf}
+use Rattle.packets.specs.Packet.{bodyWith}
+use Rattle.packets.specs.AesGcm.{aesGcm}
 use Rattle.packets.proofs.Sealing.{front-length}
-use Rattle.seal.specs.Sealing.{bodyWith}
 use Rattle.seal.proofs.Protecting.{protected-laid}
 use Rattle.seal.proofs.write_packet.Statement.{statement}
 use Rattle.seal.proofs.write_packet.Tie as tie
@@ -62,7 +63,7 @@ returns c =
     let at = header .result + a .count in
     let one = header .last .1 .1 .1 .1 .1 .1 .1 .0 in
     let body = c .before .before .before .before .before .before .before .before .before .write-body .ensures
-    ∙ ap (λ (once : List ℕ). laid one at (bodyWith (a .keys .key) once (take at one) (a .payload .now))) (c .before .before .before .before .before .before .before .before .before .before .before .before .before .nonce-of .ensures) in
+    ∙ ap (λ (once : List ℕ). laid one at (bodyWith aesGcm (a .keys .key) once (take at one) (a .payload .now))) (c .before .before .before .before .before .before .before .before .before .before .before .before .before .nonce-of .ensures) in
     protected-laid (keysOf (a .keys)) p (a .buffer .now) one _ _ _ (header .result) (c .before .before .before .before .before .before .before .before .before .before .before .before .before .before .before .before .before .before .before .before .before .before .before .before .before .before .before .pre .enough) (header .ensures .stands) (header .ensures .holds)
     body (c .before .before .before .before .mask-of .ensures) (c .before .before .protect .ensures)
 

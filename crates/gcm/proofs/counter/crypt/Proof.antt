@@ -6,9 +6,9 @@ use native.Mathlib.Omega.{arith}
 use borrow.Author.Needs.{needs}
 use lib.ListN.{length, take, drop}
 use Rattle.octets.specs.Octets.{xor, laid}
+use Rattle.octets.proofs.Parts.{part-length}
 use Rattle.aes128.proofs.Laws.{encrypted-length}
 use Rattle.gcm.proofs.Counting.{crypt-turn, crypt-end}
-use Rattle.gcm.proofs.Lists.{part-length}
 use Rattle.gcm.specs.Gcm.{inc32, gctr, streamBy}
 use Rattle.gcm.proofs.counter.crypt.Statement.{statement}
 use Rattle.gcm.proofs.counter.crypt.Tie as tie
@@ -64,7 +64,7 @@ copy-masked-requires c κs =
     let l = c .before .before .before .before .before .before .before .before .loop in
     let a = c .before .before .before .before .before .before .before .before .before .before .before .before .before .before .args in
     let end = c .before .before .before .before .before .before .block-end in
-    let size = part-length (a .source .now) (l .i) (end .result) (omega arith) (end .ensures .1) in
+    let size = part-length (a .source .now) (l .i) (end .result - l .i) (omega (arith, end .ensures .1)) in
     let mask = ap length (c .before .before .before .encrypt-with .ensures) ∙ encrypted-length (a .schedule .now) (l .block) in
     (omega (arith, l .inv .1), omega arith)
 

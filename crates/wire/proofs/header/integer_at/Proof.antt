@@ -5,7 +5,8 @@ use native.Mathlib.Omega.{arith}
 use lib.ListN.{drop, length-drop}
 use Rattle.wire.specs.Integer.{integer}
 use Rattle.wire.specs.Answers.{integerAnswer}
-use Rattle.wire.proofs.Fields.{to-end, integer-taken, integer-refused, integer-found}
+use Rattle.octets.proofs.Parts.{to-end}
+use Rattle.wire.proofs.Fields.{integer-taken, integer-refused, integer-found}
 use Rattle.wire.proofs.header.integer_at.Statement.{statement}
 use Rattle.wire.proofs.header.integer_at.Tie as tie
 

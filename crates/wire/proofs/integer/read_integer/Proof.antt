@@ -1,5 +1,4 @@
 -- The first byte says how many bytes there are: one, two, four or eight.
-use Prim.Native.Nat.{_-_}
 use mathlib.Core.Path.{sym}
 use borrow.Author.Needs.{needs}
 use native.Mathlib.Omega.{arith}

@@ -1,5 +1,4 @@
 -- Four bytes cover the gap, or none do.
-use Prim.Native.Nat.{_-_}
 use mathlib.Core.Path.{sym}
 use native.Mathlib.Omega.{arith}
 use Rattle.wire.proofs.Numbers.{uncovered, covered}

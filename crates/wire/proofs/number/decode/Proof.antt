@@ -1,5 +1,4 @@
 -- Each branch is a clause of the definition; no sum leaves a word.
-use Prim.Native.Nat.{_-_}
 use mathlib.Core.Path.{sym}
 use mathlib.Core.Logic.{⊎-elim}
 use borrow.Author.Needs.{needs}

@@ -1,8 +1,6 @@
 -- Each form's length.
-use Prim.Native.Nat.{_-_}
 use mathlib.Core.Path.{sym}
 use native.Mathlib.Omega.{arith}
-use lib.ListN.{length}
 use Rattle.wire.proofs.Forms.{one-length, two-length, four-length}
 use Rattle.wire.proofs.writing.smallest_form.Statement.{statement}
 use Rattle.wire.proofs.writing.smallest_form.Tie as tie

@@ -1,5 +1,4 @@
 -- The form goes by the integer's size.
-use Prim.Native.Nat.{_-_}
 use borrow.Author.Needs.{needs}
 use native.Mathlib.Omega.{arith}
 use Rattle.wire.proofs.Forms.{smallest-one, smallest-two, smallest-four, one-length, two-length, four-length}

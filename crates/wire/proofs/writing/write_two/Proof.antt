@@ -1,5 +1,4 @@
 -- The form's two bits are the number 2^14.
-use Prim.Native.Nat.{_-_, _^_}
 use borrow.Author.Needs.{needs}
 use Rattle.wire.specs.Written.{two}
 use Rattle.wire.proofs.writing.write_two.Statement.{statement}
