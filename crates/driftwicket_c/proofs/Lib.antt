@@ -1,0 +1,4 @@
+mod Answering
+mod Choices
+pub mod KeyRecords
+pub mod Numbered
