@@ -1,8 +1,7 @@
 -- What C is answered and told, by what an entry point answered.
 use Prim.Native.Nat.{ℕ}
-use mathlib.Core.Path.{_≡_, refl, sym, ap, subst, _∙_}
+use mathlib.Core.Path.{_≡_, ap, subst}
 use mathlib.Core.List.{List, [], _∷_}
-use native.Mathlib.Omega.{arith}
 use lib.ListN.{length}
 use Rattle.octets.specs.Outcome.{Outcome, refused, given}
 use Rattle.octets.specs.Octets.{placed, lengthGiven}
@@ -10,14 +9,11 @@ use Rattle.wire.specs.Numbers.{Acknowledged}
 use Rattle.wire.specs.Written.{Plain}
 use Rattle.packets.specs.Protection.{Keys}
 use Rattle.packets.specs.Packet.{Opened}
-use Rattle.keys.specs.Answers.{refusalOf, keysGiven}
 use Rattle.seal.specs.Sealing.{Seal}
 use Rattle.seal.specs.declared.Sealing.{Sealing}
 use Rattle.open.specs.Opening.{Report, reported, Open}
 use Rattle.open.specs.declared.Opening.{Opening}
-use Rattle.driftwicket_c.specs.Arguments.{keyBytes}
 use Rattle.driftwicket_c.specs.Promises.{answered, told, Answers, Writes, openedNumbers}
-use Rattle.driftwicket_c.proofs.Numbered.{Numbered}
 
 module _ {A : Type 0} {o : Outcome A} {reportOf : A → List ℕ} {before : List ℕ} where
   -- a refusal's number, and the report as it was
@@ -47,22 +43,6 @@ module _ {before : List ℕ} {r : ℕ} {report : List ℕ} where
   pub opening : (o : Outcome Opened) → Answers (reported o) reportNumbers before r report → Answers o openedNumbers before r report
   opening (refused n) a = record { answer = a .answer; reported = a .reported }
   opening (given opened) a = record { answer = a .answer; reported = a .reported }
-
--- ---- a refusal's number beside a record of keys
-module _ {o : Outcome Keys} {before : List ℕ} {r : ℕ} (is : r ≡ refusalOf o) where
-  pub keys-refused : (r ≡ 0 → ⊥) → Answers o keyBytes before r before
-  keys-refused some = by o is
-    where
-      by : (x : Outcome Keys) → r ≡ refusalOf x → Answers x keyBytes before r before
-      by (refused n) e = record { answer = e; reported = refl }
-      by (given k) e = absurd (some e)
-
-  pub keys-given : {k : Keys} {written : List ℕ} → Numbered o → r ≡ 0 → k ≡ keysGiven o → written ≡ keyBytes k → Answers o keyBytes before 0 written
-  keys-given {k} {written} numbered none same wrote = by o is numbered same
-    where
-      by : (x : Outcome Keys) → r ≡ refusalOf x → Numbered x → k ≡ keysGiven x → Answers x keyBytes before 0 written
-      by (refused n) e some at = let never : ⊥ = omega (arith, some .number n refl, sym none ∙ e) in absurd never
-      by (given key) e some at = record { answer = refl; reported = wrote ∙ ap keyBytes at }
 
 -- ---- what is promised of keys and an acknowledged number, of those that C's arguments stand for
 pub seal-of : {k k′ : Keys} {a a′ : Acknowledged} {p : Plain} {before : List ℕ} {r : Sealing} {after : List ℕ} → k ≡ k′ → a ≡ a′ → Seal k a p before r after

@@ -1,4 +1,6 @@
 mod Answering
 mod Choices
+mod KeysAnswered
 pub mod KeyRecords
 pub mod Numbered
+pub mod OneAnswer

@@ -1,8 +1,8 @@
 -- A refusal is told by its number alone, and what was opened by its numbers.
 use mathlib.Core.Path.{sym, ap, _∙_}
+use borrow.Author.Needs.{needs}
 use Rattle.open.specs.Opening.{openingAnswer}
 use Rattle.driftwicket_c.proofs.Answering.{refusing, giving, opening, open-of}
-use borrow.Author.Needs.{needs}
 use Rattle.driftwicket_c.proofs.dw_open.Statement.{statement}
 use Rattle.driftwicket_c.proofs.dw_open.Tie as tie
 

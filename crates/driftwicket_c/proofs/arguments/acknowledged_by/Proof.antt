@@ -1,6 +1,6 @@
 -- The number counts where C says that there is one.
-use Rattle.driftwicket_c.proofs.Choices.{some-acknowledged}
 use borrow.Author.Needs.{needs}
+use Rattle.driftwicket_c.proofs.Choices.{some-acknowledged}
 use Rattle.driftwicket_c.proofs.arguments.acknowledged_by.Statement.{statement}
 use Rattle.driftwicket_c.proofs.arguments.acknowledged_by.Tie as tie
 

@@ -1,11 +1,11 @@
 -- Each part fills its array, and four bytes spell a version.
 use mathlib.Core.Path.{refl, _∙_}
+use borrow.Author.Needs.{needs}
 use native.Mathlib.Omega.{arith}
 use lib.ListN.{replicate}
 use Rattle.wire.proofs.Fields.{four-bytes}
 use Rattle.packets.proofs.Filled.{whole-part}
 use Rattle.driftwicket_c.proofs.KeyRecords.{keys-read}
-use borrow.Author.Needs.{needs}
 use Rattle.driftwicket_c.proofs.arguments.load_keys.Statement.{statement}
 use Rattle.driftwicket_c.proofs.arguments.load_keys.Tie as tie
 

@@ -1,6 +1,6 @@
 -- Anything but 0 is the server.
-use Rattle.driftwicket_c.proofs.Choices.{server-side}
 use borrow.Author.Needs.{needs}
+use Rattle.driftwicket_c.proofs.Choices.{server-side}
 use Rattle.driftwicket_c.proofs.arguments.side_by.Statement.{statement}
 use Rattle.driftwicket_c.proofs.arguments.side_by.Tie as tie
 

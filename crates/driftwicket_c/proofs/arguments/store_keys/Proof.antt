@@ -1,7 +1,7 @@
 -- Each part goes on where the one before it ends, and the last fills the bytes.
+use borrow.Author.Needs.{needs}
 use native.Mathlib.Omega.{arith}
 use Rattle.driftwicket_c.proofs.KeyRecords.{keys-laid}
-use borrow.Author.Needs.{needs}
 use Rattle.driftwicket_c.proofs.arguments.store_keys.Statement.{statement}
 use Rattle.driftwicket_c.proofs.arguments.store_keys.Tie as tie
 
