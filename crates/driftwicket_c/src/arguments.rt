@@ -1,8 +1,8 @@
 // What C's arguments stand for, and key records as C holds them.
-use keys::Side;
-use packets::Keys;
-use wire::number::Acknowledged;
-use wire::number::FullPn;
+use driftwicket::Acknowledged;
+use driftwicket::FullPn;
+use driftwicket::Keys;
+use driftwicket::Side;
 ghost use mathlib.Core.Path.{_≡_};
 ghost use lib.ListN.{length};
 ghost use Rattle.wire.specs.Answers.{acknowledgedOf};

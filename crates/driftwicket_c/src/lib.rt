@@ -3,17 +3,17 @@ use crate::arguments::acknowledged_by;
 use crate::arguments::load_keys;
 use crate::arguments::side_by;
 use crate::arguments::store_keys;
-use open::Opening;
-use retry::Checking;
-use retry::Writing;
-use seal::Sealing;
-use wire::header::Reading;
-use wire::integer::Integer;
-use wire::number::FullPn;
-use wire::number::Recovered;
-use wire::number::Shortened;
-use wire::number::Smallest;
-use wire::number::TruncatedPn;
+use driftwicket::Checking;
+use driftwicket::FullPn;
+use driftwicket::Integer;
+use driftwicket::Opening;
+use driftwicket::Reading;
+use driftwicket::Recovered;
+use driftwicket::Sealing;
+use driftwicket::Shortened;
+use driftwicket::Smallest;
+use driftwicket::TruncatedPn;
+use driftwicket::Writing;
 ghost use Rattle.driftwicket_c.specs.Promises.{DwReadInteger, DwSmallestLength, DwShorten, DwRecover, DwInitialKeys, DwSeal, DwOpen, DwReadHeader, DwWriteRetry, DwCheckRetry};
 
 mod arguments;
@@ -23,7 +23,7 @@ mod arguments;
 pub extern "C" fn dw_read_integer(bytes: &[u8], report: &mut [u64; 2]) -> u32
     ensures { λ r. ⌜ DwReadInteger (now (bytes .entry)) (now (report .entry)) r (now (report .exit)) ⌝ }
 {
-    match wire::integer::read_integer(bytes) {
+    match driftwicket::read_integer(bytes) {
         Integer::Refused(why) => why as u32,
         Integer::Read { value, taken } => {
             *report = [value, taken as u64];
@@ -42,7 +42,7 @@ pub extern "C" fn dw_smallest_length(
 ) -> u32
     ensures { λ r. ⌜ DwSmallestLength number «any_acknowledged» acknowledged (now (report .entry)) r (now (report .exit)) ⌝ }
 {
-    match wire::number::smallest_length(
+    match driftwicket::smallest_length(
         FullPn(number),
         acknowledged_by(any_acknowledged, acknowledged),
     ) {
@@ -65,7 +65,7 @@ pub extern "C" fn dw_shorten(
 ) -> u32
     ensures { λ r. ⌜ DwShorten number «any_acknowledged» acknowledged length (now (report .entry)) r (now (report .exit)) ⌝ }
 {
-    match wire::number::shorten(
+    match driftwicket::shorten(
         FullPn(number),
         acknowledged_by(any_acknowledged, acknowledged),
         length,
@@ -88,7 +88,7 @@ pub extern "C" fn dw_recover(
 ) -> u32
     ensures { λ r. ⌜ DwRecover expected truncated length (now (report .entry)) r (now (report .exit)) ⌝ }
 {
-    match wire::number::recover(expected, TruncatedPn(truncated), length) {
+    match driftwicket::recover(expected, TruncatedPn(truncated), length) {
         Recovered::Refused(why) => why as u32,
         Recovered::Full(full) => {
             *report = [full.0];
@@ -107,7 +107,7 @@ pub extern "C" fn dw_initial_keys(
 ) -> u32
     ensures { λ r. ⌜ DwInitialKeys version (now (destination .entry)) server (now (keys .entry)) r (now (keys .exit)) ⌝ }
 {
-    let made = keys::initial_keys(version, destination, side_by(server));
+    let made = driftwicket::initial_keys(version, destination, side_by(server));
     if made.refused != 0 {
         return made.refused as u32;
     }
@@ -136,7 +136,7 @@ pub extern "C" fn dw_seal(
 ) -> u32
     ensures { λ r. ⌜ DwSeal (now (keys .entry)) «any_acknowledged» acknowledged (record { destination = now (destination .entry); source = now (source .entry); token = now (token .entry); payload = now (payload .entry); packetNumber = number; numberLength = length }) (now (report .entry)) r (now (report .exit)) (now (out .entry)) (now (out .exit)) ⌝ }
 {
-    match seal::seal(
+    match driftwicket::seal(
         load_keys(keys),
         FullPn(number),
         acknowledged_by(any_acknowledged, acknowledged),
@@ -166,7 +166,7 @@ pub extern "C" fn dw_open(
 ) -> u32
     ensures { λ r. ⌜ DwOpen (now (keys .entry)) (now (datagram .entry)) (now (expected .entry)) (now (expected .exit)) (now (report .entry)) r (now (report .exit)) (now (out .entry)) (now (out .exit)) ⌝ }
 {
-    match open::open(load_keys(keys), expected, datagram, out) {
+    match driftwicket::open(load_keys(keys), expected, datagram, out) {
         Opening::Refused(why) => why as u32,
         Opening::Opened(opened) => {
             let number = opened.number;
@@ -187,7 +187,7 @@ pub extern "C" fn dw_open(
 pub extern "C" fn dw_read_header(datagram: &[u8], report: &mut [u64; 9]) -> u32
     ensures { λ r. ⌜ DwReadHeader (now (datagram .entry)) (now (report .entry)) r (now (report .exit)) ⌝ }
 {
-    match wire::header::read_header(datagram) {
+    match driftwicket::read_header(datagram) {
         Reading::Refused(why) => why as u32,
         Reading::Read(header) => {
             *report = [
@@ -220,7 +220,7 @@ pub extern "C" fn dw_write_retry(
 ) -> u32
     ensures { λ r. ⌜ DwWriteRetry version (now (original .entry)) (now (destination .entry)) (now (source .entry)) (now (token .entry)) «low_bits» (now (report .entry)) r (now (report .exit)) (now (out .entry)) (now (out .exit)) ⌝ }
 {
-    match retry::write_retry(version, original, destination, source, token, low_bits, out) {
+    match driftwicket::write_retry(version, original, destination, source, token, low_bits, out) {
         Writing::Refused(why) => why as u32,
         Writing::Written(size) => {
             *report = [size as u64];
@@ -234,7 +234,7 @@ pub extern "C" fn dw_write_retry(
 pub extern "C" fn dw_check_retry(original: &[u8], datagram: &[u8], report: &mut [u64; 7]) -> u32
     ensures { λ r. ⌜ DwCheckRetry (now (original .entry)) (now (datagram .entry)) (now (report .entry)) r (now (report .exit)) ⌝ }
 {
-    match retry::check_retry(original, datagram) {
+    match driftwicket::check_retry(original, datagram) {
         Checking::Refused(why) => why as u32,
         Checking::Checked(fields) => {
             *report = [
