@@ -222,8 +222,8 @@ pub extern "C" fn dw_write_retry(
 {
     match driftwicket::write_retry(version, original, destination, source, token, low_bits, out) {
         Writing::Refused(why) => why as u32,
-        Writing::Written(size) => {
-            *report = [size as u64];
+        Writing::Written(written) => {
+            *report = [written as u64];
             0
         }
     }

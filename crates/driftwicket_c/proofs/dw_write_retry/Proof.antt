@@ -15,8 +15,8 @@ enum-known-why c = search needs
 cast-result : tie.Need-cast-result
 cast-result c = search needs
 
-enum-known-size : tie.Need-enum-known-size
-enum-known-size c = search needs
+enum-known-written : tie.Need-enum-known-written
+enum-known-written c = search needs
 
 same-length : tie.Need-same-length
 same-length c = search needs
@@ -32,7 +32,7 @@ same-length-2 c = search needs
 returns-2 : tie.Need-returns-2
 returns-2 c =
     let w = c .before .before .before .before .before .before .write-retry .ensures in
-    writing _ (giving (sym (ap writingAnswer (c .before .before .size .given .1)) ∙ w .answer)) (w .output)
+    writing _ (giving (sym (ap writingAnswer (c .before .before .written .given .1)) ∙ w .answer)) (w .output)
 
 pub dw-write-retry-spec : {M : Type 1} → statement M
 dw-write-retry-spec =
@@ -41,7 +41,7 @@ dw-write-retry-spec =
     write-retry-requires
     enum-known-why
     cast-result
-    enum-known-size
+    enum-known-written
     same-length
     returns
     same-length-2
