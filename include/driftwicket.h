@@ -6,7 +6,7 @@
  * 0x709a50c4. It leaves out the TLS handshake, the frames inside a payload, timers, and the rule that a client's
  * datagram has 1,200 bytes or more. It does not hide its timing.
  *
- * Each function is proved: for all input its answer, its report and every byte of what it was lent are what its contract
+ * Each function is proved: for all input its answer, its report and every byte that it was lent are what its contract
  * says (crates/driftwicket_c/specs/Promises.antt), it ends, and it touches nothing else.
  *
  * THE ANSWER of every function is DW_OK (0), or the number of a refusal (enum dw_refusal).
@@ -14,28 +14,33 @@
  * THE REPORT is what a function has to tell beside that, as numbers in the order given with the function. It is written
  * with the answer 0 alone.
  *
- * A REFUSAL changes nothing: report, output, keys and expected number stay as they were, to the last byte. Where several
- * things are wrong, the refusal is the first that applies in the order given with the function.
+ * A REFUSAL changes nothing: report, output, keys and expected number stay as they were, to the last byte. Where
+ * several things are wrong, the refusal is the first that applies in the order given with the function.
  *
  * MEMORY. The library allocates nothing, keeps nothing between calls and has no state of its own. The caller lends:
- *   - a pointer followed by a length names that many bytes, which must be there for the time of the call. Where the length
- *     is 0 nothing is read or written, and the pointer may be NULL;
- *   - a pointer to keys, to an expected number or to a report is never NULL and has the room that its declaration says, and
- *     numbers stand where a uint64_t may stand;
- *   - what is written (output, keys, expected number, report) overlaps nothing else that the same call is lent. What is only
- *     read may overlap;
+ *   - a pointer followed by a length names that many bytes, which must be there for the time of the call. Where the
+ *     length is 0 nothing is read or written, and the pointer may be NULL;
+ *   - a pointer to keys, to an expected number or to a report is never NULL and has the room that its declaration says,
+ *     and numbers stand where a uint64_t may stand;
+ *   - what is written (output, keys, expected number, report) overlaps nothing else that the same call is lent. What is
+ *     only read may overlap;
  *   - a length is at most PTRDIFF_MAX, as it is for every object in C.
  * No other demand is made: no number, length or byte is wrong to pass, and what cannot be done is refused.
  *
  * THREADS. Any number of calls may run at the same time, as long as none writes what another one reads or writes.
  *
- * Link with libdriftwicket.a, which needs nothing but memcpy, memmove and memset of the C library.
+ * Link with libdriftwicket.a, which `make lib` builds and which needs nothing but memcpy, memmove and memset of the C
+ * library.
  */
 #ifndef DRIFTWICKET_H
 #define DRIFTWICKET_H
 
 #include <stddef.h>
 #include <stdint.h>
+
+#if defined(SIZE_MAX) && SIZE_MAX != UINT64_MAX
+#error "Driftwicket is for machines whose size_t has 64 bits."
+#endif
 
 #ifdef __cplusplus
 extern "C" {
@@ -68,7 +73,7 @@ enum dw_refusal {
     DW_TAG = 11,      /* the tag doesn't match: the packet was damaged, or sealed with other keys */
     DW_LENGTH = 12,   /* the number's length isn't 1 to 4, or is too short for the gap or for the short number */
     DW_NO_TOKEN = 13, /* the Retry token is empty */
-    DW_GAP = 14       /* the acknowledged number isn't below the number, or the gap is 2^31 or more: no length covers it */
+    DW_GAP = 14       /* the acknowledged number isn't below the number, or the gap is 2^31 or more */
 };
 
 /*
@@ -82,8 +87,9 @@ uint32_t dw_read_integer(const uint8_t *bytes, size_t len, uint64_t report[2]);
 /*
  * RFC 9000 section 17.1: the fewest bytes in which a packet number may be sent.
  *
- * `number` is the full number. `any_acknowledged` is 0 where the other side has acknowledged nothing, and `acknowledged`
- * then doesn't count; anything else says that `acknowledged` is the greatest number that it has acknowledged.
+ * `number` is the full number. `any_acknowledged` is 0 where the other side has acknowledged nothing, and
+ * `acknowledged` then doesn't count; anything else says that `acknowledged` is the greatest number that it has
+ * acknowledged.
  *
  * Report: the length, from 1 to 4.
  * Refusals, in this order: DW_RANGE, DW_GAP.
@@ -98,7 +104,8 @@ uint32_t dw_smallest_length(uint64_t number, uint32_t any_acknowledged, uint64_t
  * Report: the short number.
  * Refusals, in this order: DW_RANGE, DW_GAP, DW_LENGTH.
  */
-uint32_t dw_shorten(uint64_t number, uint32_t any_acknowledged, uint64_t acknowledged, size_t length, uint64_t report[1]);
+uint32_t dw_shorten(uint64_t number, uint32_t any_acknowledged, uint64_t acknowledged, size_t length,
+                    uint64_t report[1]);
 
 /*
  * RFC 9000 appendix A.3: the full number that a short one of `length` bytes stands for.
@@ -117,8 +124,8 @@ uint32_t dw_recover(uint64_t expected, uint64_t truncated, size_t length, uint64
  * set. `server` is 0 for the client's keys and anything else for the server's. Both sides of a connection need both: a
  * client seals with the client's keys and opens with the server's.
  *
- * There is no report. `keys` holds, with the answer 0, the version (4 bytes, most significant first), key (16), iv (12) and
- * hp (16).
+ * There is no report. `keys` holds, with the answer 0, the version (4 bytes, most significant first), key (16), iv (12)
+ * and hp (16).
  * Refusals, in this order: DW_VERSION, DW_LONG_ID.
  */
 uint32_t dw_initial_keys(uint32_t version, const uint8_t *destination, size_t destination_len, uint32_t server,
@@ -128,8 +135,9 @@ uint32_t dw_initial_keys(uint32_t version, const uint8_t *destination, size_t de
  * RFC 9001 section 5: seals an Initial packet, of the keys' version, at the start of `out`.
  *
  * `number`, `any_acknowledged`, `acknowledged` and `length` are those of dw_shorten: the number goes into the packet in
- * `length` bytes. Then come the connection IDs, the token and the payload; each may be empty. The same number must never
- * be sealed twice with the same keys: the library doesn't remember numbers.
+ * `length` bytes. Then come the connection IDs, the token and the payload. Each may be empty, but `length` and the
+ * payload's length are 4 or more together. The same number must never be sealed twice with the same keys: the library
+ * doesn't remember numbers.
  *
  * Report: the packet's length. The bytes of `out` behind the packet stay as they were.
  * Refusals, in this order: DW_VERSION (the keys'), DW_RANGE, DW_GAP, DW_LENGTH, DW_LONG_ID, DW_SHORT, DW_SIZE, DW_ROOM.
@@ -142,36 +150,38 @@ uint32_t dw_seal(const uint8_t keys[48], uint64_t number, uint32_t any_acknowled
 /*
  * RFC 9001 section 5: opens the Initial packet that begins a datagram.
  *
- * `keys` are the sender's. `*expected` is one above the greatest number opened so far, or 0 before any; with the answer 0 it
- * becomes the larger of itself and one above the number opened. A repeated packet opens again. `out` needs as many bytes as
- * the packet has, less 16; with the answer 0 its start holds the header without its mask, number included, and behind it
- * the payload. The bytes behind those stay as they were. Nothing is written before the tag has been compared.
+ * `keys` are the sender's. `*expected` is one above the greatest number opened so far, or 0 before any; with the answer
+ * 0 it becomes the larger of itself and one above the number opened. A repeated packet opens again. `out` needs as many
+ * bytes as the packet has, less 16; with the answer 0 its start holds the header without its mask, number included, and
+ * behind it the payload. The bytes behind those stay as they were. Nothing is written before the tag has been compared.
  *
- * Report: the full number; its length in the packet; the header's length, number included; the payload's length; how many
- * bytes of the datagram the packet took. Bytes behind the packet aren't looked at: another packet may stand there.
- * Refusals, in this order: DW_RANGE (expected), DW_VERSION (the keys'), then the header's (see dw_read_header; a known version
- * that isn't the keys' is DW_VERSION too), DW_ROOM, DW_RESERVED, DW_RANGE (recovered), DW_TAG.
+ * Report: the full number; its length in the packet; the header's length, number included; the payload's length; how
+ * many bytes of the datagram the packet took. Bytes behind the packet aren't looked at: another packet may stand there.
+ * Refusals, in this order: DW_RANGE (expected), DW_VERSION (the keys'), then the header's (see dw_read_header; a known
+ * version that isn't the keys' is DW_VERSION too), DW_ROOM, DW_RESERVED, DW_RANGE (recovered), DW_TAG.
  */
 uint32_t dw_open(const uint8_t keys[48], uint64_t *expected, const uint8_t *datagram, size_t datagram_len,
                  uint8_t *out, size_t out_len, uint64_t report[5]);
 
 /*
- * RFC 9000 section 17.2.2: where the fields of an Initial packet stand in a datagram. It needs no keys: this is how a server
- * learns the destination ID that the keys are made from. Nothing of it is authentic until the packet has been opened.
+ * RFC 9000 section 17.2.2: where the fields of an Initial packet stand in a datagram. It needs no keys: this is how a
+ * server learns the destination ID that the keys are made from. Nothing of it is authentic until the packet has been
+ * opened.
  *
- * Report: the version; place and length of the destination ID, of the source ID and of the token; the value of Length; the
- * place of the packet number. A place counts bytes from the datagram's start, and an empty part's is where it would start.
- * Refusals: DW_SIZE, DW_FORM, and then field by field in the packet's order. Each field is first whole (DW_NOT_WHOLE) and then
- * right: the version DW_VERSION, and after it the type DW_TYPE; an ID's length DW_LONG_ID, even where its bytes aren't there;
- * Length DW_SHORT before its end is looked for (DW_NOT_WHOLE).
+ * Report: the version; place and length of the destination ID, of the source ID and of the token; the value of Length;
+ * the place of the packet number. A place counts bytes from the datagram's start, and an empty part's is where it would
+ * start.
+ * Refusals: DW_SIZE, DW_FORM, and then field by field in the packet's order. Each field is first whole (DW_NOT_WHOLE)
+ * and then right: the version DW_VERSION, and after it the type DW_TYPE; an ID's length DW_LONG_ID, even where its
+ * bytes aren't there; Length DW_SHORT before its end is looked for (DW_NOT_WHOLE).
  */
 uint32_t dw_read_header(const uint8_t *datagram, size_t datagram_len, uint64_t report[9]);
 
 /*
  * RFC 9000 section 17.2.5 and RFC 9001 section 5.8: writes a Retry packet at the start of `out`.
  *
- * `original` is the Destination Connection ID of the Initial that the Retry answers. `low_bits` modulo 16 becomes the first
- * byte's low four bits, which have no meaning.
+ * `original` is the Destination Connection ID of the Initial that the Retry answers. `low_bits` modulo 16 becomes the
+ * first byte's low four bits, which have no meaning.
  *
  * Report: the packet's length. The bytes of `out` behind the packet stay as they were.
  * Refusals, in this order: DW_VERSION, DW_LONG_ID (original, destination, source), DW_NO_TOKEN, DW_SIZE, DW_ROOM.
@@ -181,12 +191,12 @@ uint32_t dw_write_retry(uint32_t version, const uint8_t *original, size_t origin
                         size_t token_len, uint64_t low_bits, uint8_t *out, size_t out_len, uint64_t report[1]);
 
 /*
- * RFC 9001 section 5.8: checks that a datagram is a Retry packet that answers the Initial sent to `original`. The packet is
- * the whole datagram.
+ * RFC 9001 section 5.8: checks that a datagram is a Retry packet that answers the Initial sent to `original`. The
+ * packet is the whole datagram.
  *
  * Report: the version; place and length of the destination ID, of the source ID and of the token.
- * Refusals: DW_LONG_ID (original), then as dw_read_header to the source ID; fewer than 16 bytes behind it are DW_NOT_WHOLE, and
- * exactly 16 are DW_NO_TOKEN; then DW_TAG.
+ * Refusals: DW_LONG_ID (original), then as dw_read_header to the source ID; fewer than 16 bytes behind it are
+ * DW_NOT_WHOLE, and exactly 16 are DW_NO_TOKEN; then DW_TAG.
  */
 uint32_t dw_check_retry(const uint8_t *original, size_t original_len, const uint8_t *datagram, size_t datagram_len,
                         uint64_t report[7]);

@@ -1,4 +1,5 @@
 // The library for C: each entry point on numbers and lent bytes. It answers 0 or the refusal's number, and reports only with 0.
+// To C a slice is a pointer and a length, and a reference a pointer alone (include/driftwicket.h).
 use crate::arguments::acknowledged_by;
 use crate::arguments::load_keys;
 use crate::arguments::side_by;
@@ -18,7 +19,7 @@ ghost use Rattle.driftwicket_c.specs.Promises.{DwReadInteger, DwSmallest
 
 mod arguments;
 
-// RFC 9000 section 16: the value, and the bytes it took.
+// RFC 9000 section 16: reports the value of the integer at the start, and the bytes it took.
 #[no_mangle]
 pub extern "C" fn dw_read_integer(bytes: &[u8], report: &mut [u64; 2]) -> u32
     ensures { λ r. ⌜ DwReadInteger (now (bytes .entry)) (now (report .entry)) r (now (report .exit)) ⌝ }
@@ -32,7 +33,7 @@ pub extern "C" fn dw_read_integer(bytes: &[u8], report: &mut [u64; 2]) -> u32
     }
 }
 
-// RFC 9000 section 17.1: the fewest bytes that tell the number apart.
+// RFC 9000 section 17.1: reports the fewest bytes that tell the number apart.
 #[no_mangle]
 pub extern "C" fn dw_smallest_length(
     number: u64,
@@ -54,7 +55,7 @@ pub extern "C" fn dw_smallest_length(
     }
 }
 
-// RFC 9000 section 17.1: the number in `length` bytes.
+// RFC 9000 section 17.1: reports the number in `length` bytes.
 #[no_mangle]
 pub extern "C" fn dw_shorten(
     number: u64,
@@ -78,7 +79,7 @@ pub extern "C" fn dw_shorten(
     }
 }
 
-// RFC 9000 appendix A.3: the full number that a short one stands for.
+// RFC 9000 appendix A.3: reports the full number that a short one stands for.
 #[no_mangle]
 pub extern "C" fn dw_recover(
     expected: u64,
@@ -97,7 +98,7 @@ pub extern "C" fn dw_recover(
     }
 }
 
-// RFC 9001 section 5.2: one side's keys.
+// RFC 9001 section 5.2: writes one side's keys.
 #[no_mangle]
 pub extern "C" fn dw_initial_keys(
     version: u32,
@@ -119,7 +120,7 @@ pub extern "C" fn dw_initial_keys(
     0
 }
 
-// RFC 9001 section 5: a packet sealed at the output's start; its length.
+// RFC 9001 section 5: seals a packet at the output's start, and reports its length.
 #[no_mangle]
 pub extern "C" fn dw_seal(
     keys: &[u8; 48],
@@ -155,7 +156,8 @@ pub extern "C" fn dw_seal(
     }
 }
 
-// RFC 9001 section 5: a packet opened.
+// RFC 9001 section 5: opens the packet that begins a datagram, and reports its number, the number's length, the header's and the
+// payload's, and the bytes used.
 #[no_mangle]
 pub extern "C" fn dw_open(
     keys: &[u8; 48],
@@ -182,7 +184,7 @@ pub extern "C" fn dw_open(
     }
 }
 
-// RFC 9000 section 17.2.2: where an Initial packet's fields stand.
+// RFC 9000 section 17.2.2: reports the version, place and length of both IDs and of the token, Length, and the number's place.
 #[no_mangle]
 pub extern "C" fn dw_read_header(datagram: &[u8], report: &mut [u64; 9]) -> u32
     ensures { λ r. ⌜ DwReadHeader (now (datagram .entry)) (now (report .entry)) r (now (report .exit)) ⌝ }
@@ -206,7 +208,7 @@ pub extern "C" fn dw_read_header(datagram: &[u8], report: &mut [u64; 9]) -> u32
     }
 }
 
-// RFC 9001 section 5.8: a Retry written at the output's start; its length.
+// RFC 9001 section 5.8: writes a Retry at the output's start, and reports its length.
 #[no_mangle]
 pub extern "C" fn dw_write_retry(
     version: u32,
@@ -229,7 +231,7 @@ pub extern "C" fn dw_write_retry(
     }
 }
 
-// RFC 9001 section 5.8: a Retry checked; where its fields stand.
+// RFC 9001 section 5.8: checks a Retry, and reports the version, and place and length of both IDs and of the token.
 #[no_mangle]
 pub extern "C" fn dw_check_retry(original: &[u8], datagram: &[u8], report: &mut [u64; 7]) -> u32
     ensures { λ r. ⌜ DwCheckRetry (now (original .entry)) (now (datagram .entry)) (now (report .entry)) r (now (report .exit)) ⌝ }
