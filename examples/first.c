@@ -26,7 +26,7 @@ int main(void)
     size_t length;
     uint32_t refused;
 
-    /* The client: its keys, and packet number 2 in one byte. Nothing is acknowledged yet. Source ID and token are empty. */
+    /* The client: its keys, and packet number 2 in one byte. Nothing is acknowledged yet; no source ID and no token. */
     refused = dw_initial_keys(DW_VERSION_1, destination, sizeof destination, 0, keys);
     if (refused == DW_OK)
         refused = dw_seal(keys, 2, 0, 0, 1, destination, sizeof destination, NULL, 0, NULL, 0, (const uint8_t *)text,
