@@ -5,3 +5,4 @@ pub mod KeyRecords
 pub mod KeySizes
 pub mod Numbered
 pub mod OneAnswer
+pub mod Reopening
