@@ -15,6 +15,7 @@ use Rattle.driftwicket_c.specs.Arguments.{keyBytes}
 use Rattle.driftwicket_c.specs.Promises.{Answers}
 use Rattle.driftwicket_c.proofs.Numbered.{Numbered, initial-keys-numbered}
 
+-- a number that is not 0 is a refusal's, and 0 is none's
 module _ {r : ℕ} {before : List ℕ} where
   refused-by : (o : Outcome Keys) → r ≡ refusalOf o → (r ≡ 0 → ⊥) → Answers o keyBytes before r before
   refused-by (refused n) is some = record { answer = is; reported = refl }
@@ -25,6 +26,7 @@ module _ {r : ℕ} {before : List ℕ} where
   given-by (refused n) numbered is none same wrote = let never : ⊥ = omega (arith, numbered .number n refl) in absurd never
   given-by (given k) numbered is none same wrote = record { answer = refl; reported = wrote ∙ ap keyBytes same }
 
+-- the keys of the side that C means
 module _ {v : ℕ} {destination : List ℕ} {side : Side} {s : Section5.Side} {r : InitialKeys}
     (means : sideOf side ≡ s) (made : InitialKeysMade v destination side r) where
   refusal : r .refused ≡ refusalOf (initialKeys v destination s)
