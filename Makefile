@@ -1,5 +1,5 @@
 # Driftwicket: the two commands are `make demo` and `make test`.
-.PHONY: demo layout lib rust second test
+.PHONY: demo first layout lib rust second test
 # `make test` asks for its parts in their order.
 .NOTPARALLEL:
 
@@ -22,6 +22,11 @@ demo:
 lib:
 	@echo "Proving the library for C and compiling it (some minutes the first time) ..."
 	@tools/library
+
+# A first use in C: examples/first.c seals a packet and opens it.
+first: lib
+	@$(CC) -std=c99 -Wall -Wextra -Werror -pedantic -Iinclude examples/first.c target/staticlib/libdriftwicket.a -o target/first
+	@target/first
 
 # What stands beside the library links the archive just built, and none that is named from outside.
 second rust: export DRIFTWICKET_LIB_DIR = $(CURDIR)/target/staticlib

@@ -1,0 +1,189 @@
+-- No refusal is numbered 0: an answer of 0 says that something is given, and what is reported is of it.
+use Prim.Native.Nat.{ℕ, _+_, _-_, _/_, _%_, _^_, _<_}
+use mathlib.Core.Path.{_≡_, refl, ap}
+use mathlib.Core.Bool.{Bool, true, false, _&&_}
+use mathlib.Core.List.{List, _∷_, _++_}
+use native.Mathlib.Omega.{arith}
+use lib.Dec.{leb, ltb, eqb, lit<}
+use lib.ListN.{length, getD, take, drop}
+use Rattle.octets.specs.Outcome.{Outcome, refused, given, unless, _>>=_, _>>_}
+use Rattle.octets.specs.Octets.{number, part, same}
+use Rattle.octets.proofs.Outcome.{apart}
+use Rattle.wire.specs.Integer.{integer}
+use Rattle.wire.specs.Numbers.{Acknowledged, nothing, upTo, numbers, window, half, coverable, ahead, gap, smallestLength, shortened, decoded, recovered}
+use Rattle.wire.specs.Versions.{Version, known, version}
+use Rattle.wire.specs.Header.{limit, longestId, leastLength, behind, versionOf, judged, idAt, long, integerAt, fieldAt, restAt, header}
+use Rattle.wire.specs.Written.{Plain}
+use Rattle.packets.specs.Suite.{Suite}
+use Rattle.packets.specs.Protection.{Keys, nonce, onFirst, onNumber}
+use Rattle.packets.specs.Packet.{tagLength, maskOf, packetOf, sealed, unprotected, opened}
+use Rattle.keys.specs.InitialKeys.{Side, initialKeys}
+use Rattle.retry.specs.Retry.{untagged, retryTag, tagged, retryWritten, tokenAt, retryChecked}
+use Rattle.driftwicket_c.specs.Promises.{Answers}
+
+pub record Numbered {A : Type 0} (o : Outcome A) : Type 0 where
+  pub number : (n : ℕ) → refused n ≡ o → 0 < n
+
+-- ---- what an answer of 0 says
+pub zero-given : {A : Type 0} {reportOf : A → List ℕ} {before report : List ℕ} (o : Outcome A) → Numbered o → Answers o reportOf before 0 report
+    → (a : A) × (o ≡ given a) × (report ≡ reportOf a)
+zero-given (refused n) numbered answers = let never : ⊥ = omega (arith, numbered .number n refl, answers .answer) in absurd never
+zero-given (given a) numbered answers = (a, refl, answers .reported)
+
+-- ---- guards and steps
+some : {A : Type 0} {a : A} → Numbered (given a)
+some = record { number = λ n e. absurd (apart e) }
+
+-- behind a test whose refusal has a number
+tested : {A : Type 0} (n : ℕ) (b : Bool) {o : Outcome A} → 0 < n → Numbered o → Numbered (unless n b >> o)
+tested n true some rest = rest
+tested n false some rest = record { number = λ m e. let same : m ≡ n = cc in rw same some }
+
+-- behind a step, whatever it gives
+stepped : {A B : Type 0} (o : Outcome A) {f : A → Outcome B} → Numbered o → ((a : A) → Numbered (f a)) → Numbered (o >>= f)
+stepped (refused n) numbered rest = record { number = λ m e. let same : m ≡ n = cc in numbered .number m (ap refused same) }
+stepped (given a) numbered rest = rest a
+
+-- ---- integers and packet numbers
+pub integer-numbered : (s : List ℕ) → Numbered (integer s)
+unfolding integer
+integer-numbered s = tested 3 (leb 1 (length s)) (lit< tt) (tested 3 (leb (2 ^ (getD s 0 0 / 64)) (length s)) (lit< tt) some)
+
+coverable-numbered : (g : ℕ) → Numbered (coverable g)
+unfolding coverable
+coverable-numbered g = tested 14 (ltb g (half 4)) (lit< tt) some
+
+ahead-numbered : (m : ℕ) (a : Acknowledged) → Numbered (ahead m a)
+unfolding ahead
+ahead-numbered m nothing = coverable-numbered (m + 1)
+ahead-numbered m (upTo a) = tested 14 (ltb a m) (lit< tt) (coverable-numbered (m - a))
+
+gap-numbered : (m : ℕ) (a : Acknowledged) → Numbered (gap m a)
+unfolding gap
+gap-numbered m a = tested 10 (ltb m numbers) (lit< tt) (ahead-numbered m a)
+
+pub smallest-length-numbered : (m : ℕ) (a : Acknowledged) → Numbered (smallestLength m a)
+unfolding smallestLength
+smallest-length-numbered m a = stepped (gap m a) (gap-numbered m a) (λ g. some)
+
+pub shortened-numbered : (m : ℕ) (a : Acknowledged) (n : ℕ) → Numbered (shortened m a n)
+unfolding shortened
+shortened-numbered m a n =
+    stepped (gap m a) (gap-numbered m a) (λ g. tested 12 (leb 1 n && leb n 4) (lit< tt) (tested 12 (ltb g (half n)) (lit< tt) some))
+
+pub recovered-numbered : (e t n : ℕ) → Numbered (recovered e t n)
+unfolding recovered
+recovered-numbered e t n =
+    tested 10 (leb e numbers) (lit< tt)
+    (tested 12 (leb 1 n && leb n 4) (lit< tt)
+    (tested 12 (ltb t (window n)) (lit< tt)
+    (tested 10 (ltb (decoded e t n) numbers) (lit< tt) some)))
+
+-- ---- headers
+module _ (d : List ℕ) where
+  version-numbered : Numbered (versionOf d)
+  unfolding versionOf
+  version-numbered =
+      tested 1 (leb 1 (length d) && leb (length d) limit) (lit< tt) (tested 2 (leb 0xc0 (getD d 0 0)) (lit< tt) (tested 3 (leb (1 + 4) (length d)) (lit< tt) some))
+
+  judged-numbered : (takes : ℕ → Bool) (type : Version → ℕ) → Numbered (judged takes type d)
+  unfolding judged
+  judged-numbered takes type =
+      stepped (versionOf d) version-numbered
+      (λ v. tested 4 (known v && takes v) (lit< tt) (tested 6 (eqb (getD d 0 0 / 16 % 4) (type (version v))) (lit< tt) some))
+
+  id-numbered : (at : ℕ) → Numbered (idAt d at)
+  unfolding idAt
+  id-numbered at =
+      tested 3 (leb (at + 1) (length d)) (lit< tt)
+      (tested 5 (leb (getD d at 0) longestId) (lit< tt) (tested 3 (leb (at + 1 + getD d at 0) (length d)) (lit< tt) some))
+
+  long-numbered : (takes : ℕ → Bool) (type : Version → ℕ) → Numbered (long takes type d)
+  unfolding long
+  long-numbered takes type =
+      stepped (judged takes type d) (judged-numbered takes type)
+      (λ v. stepped (idAt d 5) (id-numbered 5) (λ destination. stepped (idAt d (behind destination)) (id-numbered (behind destination)) (λ source. some)))
+
+  integer-at-numbered : (at : ℕ) → Numbered (integerAt d at)
+  unfolding integerAt
+  integer-at-numbered at = stepped (integer (drop at d)) (integer-numbered (drop at d)) (λ i. some)
+
+  field-numbered : (at : ℕ) → Numbered (fieldAt d at)
+  unfolding fieldAt
+  field-numbered at =
+      stepped (integerAt d at) (integer-at-numbered at) (λ field. tested 3 (leb (field .at + field .len) (length d)) (lit< tt) some)
+
+  rest-numbered : (at : ℕ) → Numbered (restAt d at)
+  unfolding restAt
+  rest-numbered at =
+      stepped (integerAt d at) (integer-at-numbered at)
+      (λ rest. tested 7 (leb leastLength (rest .len)) (lit< tt) (tested 3 (leb (rest .at + rest .len) (length d)) (lit< tt) some))
+
+  pub header-numbered : (takes : ℕ → Bool) → Numbered (header takes d)
+  unfolding header
+  header-numbered takes =
+      stepped (long takes (λ v. v .initialType) d) (long-numbered takes (λ v. v .initialType))
+      (λ l. stepped (fieldAt d (behind (l .source))) (field-numbered (behind (l .source))) (λ token. stepped (restAt d (behind token)) (rest-numbered (behind token)) (λ rest. some)))
+
+-- ---- keys, sealing and opening
+pub initial-keys-numbered : (v : ℕ) (destination : List ℕ) (side : Side) → Numbered (initialKeys v destination side)
+unfolding initialKeys
+initial-keys-numbered v destination side = tested 4 (known v) (lit< tt) (tested 5 (leb (length destination) longestId) (lit< tt) some)
+
+module _ (suite : Suite) (k : Keys) where
+  pub sealed-numbered : (a : Acknowledged) (p : Plain) (room : ℕ) → Numbered (sealed suite k a p room)
+  unfolding sealed
+  sealed-numbered a p room =
+      tested 4 (known (k .version)) (lit< tt)
+      (stepped (shortened (p .packetNumber) a (p .numberLength)) (shortened-numbered (p .packetNumber) a (p .numberLength))
+      (λ short. tested 5 (leb (length (p .destination)) longestId && leb (length (p .source)) longestId) (lit< tt)
+      (tested 7 (leb 4 (p .numberLength + length (p .payload))) (lit< tt)
+      (tested 1 (leb (length (packetOf suite k p)) limit) (lit< tt)
+      (tested 8 (leb (length (packetOf suite k p)) room) (lit< tt) some)))))
+
+  unprotected-numbered : (e : ℕ) (packet : List ℕ) (at : ℕ) → Numbered (unprotected suite k e packet at)
+  unfolding unprotected
+  unprotected-numbered e packet at =
+      let mask = maskOf suite k packet at in
+      let first = onFirst mask (getD packet 0 0) in
+      let n = first % 4 + 1 in
+      let short = onNumber mask (part packet at n) in
+      let body = drop (at + n) packet in
+      let m = decoded e (number short) n in
+      tested 9 (eqb (first / 4 % 4) 0) (lit< tt)
+      (tested 10 (ltb m numbers) (lit< tt)
+      (tested 11 (same (drop (length body - tagLength) body) (suite .tag (k .key) (nonce (k .iv) m) (first ∷ part packet 1 (at - 1) ++ short) (take (length body - tagLength) body))) (lit< tt)
+      some))
+
+  pub opened-numbered : (e : ℕ) (d : List ℕ) (room : ℕ) → Numbered (opened suite k e d room)
+  unfolding opened
+  opened-numbered e d room =
+      tested 10 (leb e numbers) (lit< tt)
+      (tested 4 (known (k .version)) (lit< tt)
+      (stepped (header (λ v. eqb v (k .version)) d) (header-numbered d (λ v. eqb v (k .version)))
+      (λ h. tested 8 (leb (length (take (h .numberAt + h .length′) d) - tagLength) room) (lit< tt)
+      (unprotected-numbered e (take (h .numberAt + h .length′) d) (h .numberAt)))))
+
+-- ---- Retry
+pub retry-written-numbered : (v : ℕ) (original destination source token : List ℕ) (low room : ℕ) → Numbered (retryWritten v original destination source token low room)
+unfolding retryWritten
+retry-written-numbered v original destination source token low room =
+    let packet = tagged v original (untagged v destination source token low) in
+    tested 4 (known v) (lit< tt)
+    (tested 5 (leb (length original) longestId) (lit< tt)
+    (tested 5 (leb (length destination) longestId) (lit< tt)
+    (tested 5 (leb (length source) longestId) (lit< tt)
+    (tested 13 (leb 1 (length token)) (lit< tt)
+    (tested 1 (leb (length packet) limit) (lit< tt) (tested 8 (leb (length packet) room) (lit< tt) some))))))
+
+token-numbered : (d : List ℕ) (at : ℕ) → Numbered (tokenAt d at)
+unfolding tokenAt
+token-numbered d at = tested 3 (leb (at + tagLength) (length d)) (lit< tt) (tested 13 (leb 1 (length d - at - tagLength)) (lit< tt) some)
+
+pub retry-checked-numbered : (original d : List ℕ) → Numbered (retryChecked original d)
+unfolding retryChecked
+retry-checked-numbered original d =
+    tested 5 (leb (length original) longestId) (lit< tt)
+    (stepped (long (λ v. true) (λ v. v .retryType) d) (long-numbered d (λ v. true) (λ v. v .retryType))
+    (λ l. stepped (tokenAt d (behind (l .source))) (token-numbered d (behind (l .source)))
+    (λ token. tested 11 (same (drop (behind token) d) (retryTag (l .version) original (take (behind token) d))) (lit< tt) some)))

@@ -1,0 +1,3 @@
+pub mod Arguments
+pub mod Promises
+pub mod Reopened
