@@ -6,10 +6,9 @@ use native.Mathlib.Omega.{arith}
 use lib.ListN.{length, length-append, drop-of-length-le}
 use lib.Seq.{take-at, drop-at}
 use Rattle.octets.specs.Octets.{bytes, number, part, laid}
-use Rattle.octets.proofs.Numbers.{bytes-length}
+use Rattle.octets.proofs.Numbers.{bytes-length, number-back}
 use Rattle.octets.proofs.Buffers.{goes-on}
 use Rattle.packets.specs.Protection.{Keys}
-use Rattle.open.proofs.Spelling.{number-back}
 use Rattle.driftwicket_c.specs.Arguments.{keyBytes, keysIn}
 
 -- the parts have their sizes

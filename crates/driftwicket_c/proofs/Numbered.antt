@@ -9,14 +9,14 @@ use lib.ListN.{length, getD, take, drop}
 use Rattle.octets.specs.Outcome.{Outcome, refused, given, unless, _>>=_, _>>_}
 use Rattle.octets.specs.Octets.{number, part, same}
 use Rattle.octets.proofs.Outcome.{apart}
-use Rattle.wire.specs.Integer.{integer}
-use Rattle.wire.specs.Numbers.{Acknowledged, nothing, upTo, numbers, window, half, coverable, ahead, gap, smallestLength, shortened, decoded, recovered}
+use Rattle.numbers.specs.Integer.{integer}
+use Rattle.numbers.specs.Numbers.{Acknowledged, nothing, upTo, numbers, window, half, coverable, ahead, gap, smallestLength, shortened, decoded, recovered}
 use Rattle.wire.specs.Versions.{Version, known, version}
-use Rattle.wire.specs.Header.{limit, longestId, leastLength, behind, versionOf, judged, idAt, long, integerAt, fieldAt, restAt, header}
-use Rattle.wire.specs.Written.{Plain}
+use Rattle.wire.specs.Header.{limit, longestId, leastLength, tagLength, behind, versionOf, judged, idAt, long, integerAt, fieldAt, restAt, header}
+use Rattle.writing.specs.Written.{Plain}
 use Rattle.packets.specs.Suite.{Suite}
 use Rattle.packets.specs.Protection.{Keys, nonce, onFirst, onNumber}
-use Rattle.packets.specs.Packet.{tagLength, maskOf, packetOf, sealed, unprotected, opened}
+use Rattle.packets.specs.Packet.{maskOf, packetOf, sealed, unprotected, opened}
 use Rattle.keys.specs.InitialKeys.{Side, initialKeys}
 use Rattle.retry.specs.Retry.{untagged, retryTag, tagged, retryWritten, tokenAt, retryChecked}
 use Rattle.driftwicket_c.specs.Promises.{Answers}

@@ -8,7 +8,7 @@ use lib.Seq.{take-at}
 use Rattle.octets.specs.Outcome.{Outcome, given}
 use Rattle.octets.specs.Octets.{placed}
 use Rattle.wire.specs.Header.{limit}
-use Rattle.wire.specs.Written.{Plain, plainHeader}
+use Rattle.writing.specs.Written.{Plain, plainHeader}
 use Rattle.packets.specs.Protection.{Keys}
 use Rattle.packets.specs.Packet.{Opened, sealed, opened}
 use Rattle.packets.specs.Effects.{output, after}

@@ -5,11 +5,11 @@ use mathlib.Core.List.{List, [], _∷_}
 use lib.ListN.{length}
 use Rattle.octets.specs.Outcome.{Outcome, refused, given}
 use Rattle.octets.specs.Octets.{placed}
-use Rattle.wire.specs.Integer.{integer}
-use Rattle.wire.specs.Numbers.{smallestLength, shortened, recovered}
+use Rattle.numbers.specs.Integer.{integer}
+use Rattle.numbers.specs.Numbers.{smallestLength, shortened, recovered}
 use Rattle.wire.specs.Header.{Header}
 use Rattle.wire.specs.HeaderAnswers.{anyHeader}
-use Rattle.wire.specs.Written.{Plain}
+use Rattle.writing.specs.Written.{Plain}
 use Rattle.packets.specs.Packet.{Opened, sealed, opened}
 use Rattle.packets.specs.Effects.{output, after}
 use Rattle.packets.specs.AesGcm.{aesGcm}

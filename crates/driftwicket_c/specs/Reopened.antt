@@ -4,10 +4,9 @@ use mathlib.Core.Path.{_≡_}
 use mathlib.Core.List.{List, [], _∷_, _++_}
 use lib.ListN.{length, take}
 use Rattle.octets.specs.Octets.{begun}
-use Rattle.wire.specs.Numbers.{numbers, Near}
-use Rattle.wire.specs.Header.{limit}
-use Rattle.wire.specs.Written.{Plain, plainHeader}
-use Rattle.packets.specs.Packet.{tagLength}
+use Rattle.numbers.specs.Numbers.{numbers, Near}
+use Rattle.wire.specs.Header.{limit, tagLength}
+use Rattle.writing.specs.Written.{Plain, plainHeader}
 use Rattle.driftwicket_c.specs.Arguments.{keysIn}
 use Rattle.driftwicket_c.specs.Promises.{DwSeal, DwOpen}
 

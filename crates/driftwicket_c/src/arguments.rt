@@ -5,7 +5,7 @@ use driftwicket::Keys;
 use driftwicket::Side;
 ghost use mathlib.Core.Path.{_≡_};
 ghost use lib.ListN.{length};
-ghost use Rattle.wire.specs.Answers.{acknowledgedOf};
+ghost use Rattle.numbers.specs.Answers.{acknowledgedOf};
 ghost use Rattle.packets.specs.KeyRecord.{keysOf};
 ghost use Rattle.keys.specs.Answers.{sideOf};
 ghost use Rattle.driftwicket_c.specs.Arguments.{acknowledgedBy, sideBy, keyBytes, keysIn};

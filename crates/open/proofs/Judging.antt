@@ -8,10 +8,10 @@ use lib.Dec.{eqb}
 use Rattle.octets.specs.Outcome.{refused, given}
 use Rattle.octets.specs.Octets.{bytes, number as spells}
 use Rattle.octets.proofs.Numbers.{byte-power, number-back}
-use Rattle.wire.specs.Numbers.{numbers, decoded, recovered}
+use Rattle.numbers.specs.Numbers.{numbers, decoded, recovered}
 use Rattle.wire.specs.Versions.{known}
 use Rattle.wire.specs.Header.{Header, header, tagLength}
-use Rattle.wire.specs.declared.number.FullPn.{FullPn}
+use Rattle.numbers.specs.declared.packet.FullPn.{FullPn}
 use Rattle.wire.proofs.Headers.{header-there}
 use Rattle.packets.specs.Protection.{Keys}
 use Rattle.packets.specs.Packet.{opened}

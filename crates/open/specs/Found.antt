@@ -6,7 +6,7 @@ use mathlib.Core.List.{List, _++_}
 use lib.ListN.{length}
 use Rattle.octets.specs.Outcome.{refused, given, unless, _>>_}
 use Rattle.octets.specs.Octets.{bytes, begun, same}
-use Rattle.wire.specs.Numbers.{numbers, window}
+use Rattle.numbers.specs.Numbers.{numbers, window}
 use Rattle.wire.specs.Header.{limit, leastLength, tagLength}
 use Rattle.gcm.specs.Gcm.{stream, tag, streamBy, tagBy, hashKey}
 use Rattle.packets.specs.Protection.{Keys, nonce}

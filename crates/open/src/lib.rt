@@ -1,19 +1,19 @@
 // Opening: RFC 9001 section 5, as document 01 has it read.
+use numbers::packet::FullPn;
+use numbers::packet::NUMBERS;
+use numbers::packet::Recovered;
+use numbers::packet::TruncatedPn;
+use numbers::packet::recover;
 use octets::refusal;
 use packets::Keys;
 use wire::header::Reading;
 use wire::header::TAG_LENGTH;
 use wire::header::Wanted;
 use wire::header::read_initial;
-use wire::number::FullPn;
-use wire::number::NUMBERS;
-use wire::number::Recovered;
-use wire::number::TruncatedPn;
-use wire::number::recover;
 ghost use mathlib.Core.Path.{_≡_};
 ghost use Prim.Native.Nat.{_+_, _<_, _≤_, max};
 ghost use lib.ListN.{length};
-ghost use Rattle.wire.specs.Numbers.{numbers};
+ghost use Rattle.numbers.specs.Numbers.{numbers};
 ghost use Rattle.packets.specs.KeyRecord.{keysOf};
 ghost use Rattle.open.specs.Found.{Within, Spells, Unmasks, Finds, Matches, Writes};
 ghost use Rattle.open.specs.Opening.{Open};

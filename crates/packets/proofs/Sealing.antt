@@ -13,10 +13,10 @@ use Rattle.octets.proofs.Outcome.{passed, stepped, both, given-same}
 use Rattle.octets.proofs.Numbers.{bytes-length}
 use Rattle.octets.proofs.Xor.{xor-length}
 use Rattle.wire.specs.Versions.{known}
-use Rattle.wire.specs.Numbers.{Acknowledged, numbers, ahead, gap, shortened}
+use Rattle.numbers.specs.Numbers.{Acknowledged, numbers, ahead, gap, shortened}
 use Rattle.wire.specs.Header.{limit, longestId}
-use Rattle.wire.specs.Written.{Plain, two, smallest, longFields, initialFields, firstByte, lengthOf, fields, front, plainHeader}
-use Rattle.wire.proofs.Forms.{two-bytes, long-length}
+use Rattle.writing.specs.Written.{Plain, two, smallest, longFields, initialFields, firstByte, lengthOf, fields, front, plainHeader}
+use Rattle.writing.proofs.Forms.{two-bytes, long-length}
 use Rattle.packets.specs.Suite.{Suite, Laws}
 use Rattle.packets.specs.Protection.{Keys, nonce, onFirst, onNumber, sampleOf}
 use Rattle.packets.specs.Packet.{maskOf, bodyWith, bodyOf, packetOf, sealed}

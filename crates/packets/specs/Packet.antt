@@ -6,10 +6,10 @@ use lib.Dec.{leb, ltb, eqb}
 use lib.ListN.{length, getD, take, drop}
 use Rattle.octets.specs.Outcome.{Outcome, given, unless, _>>=_, _>>_}
 use Rattle.octets.specs.Octets.{bytes, number, part, same}
-use Rattle.wire.specs.Numbers.{Acknowledged, numbers, shortened, decoded}
+use Rattle.numbers.specs.Numbers.{Acknowledged, numbers, shortened, decoded}
 use Rattle.wire.specs.Versions.{known}
 use Rattle.wire.specs.Header.{header, limit, longestId, tagLength}
-use Rattle.wire.specs.Written.{Plain, firstByte, fields, front, plainHeader}
+use Rattle.writing.specs.Written.{Plain, firstByte, fields, front, plainHeader}
 use Rattle.packets.specs.Suite.{Suite}
 use Rattle.packets.specs.Protection.{Keys, nonce, onFirst, onNumber, sampleOf}
 

@@ -6,8 +6,8 @@ use Rattle.octets.specs.Outcome.{refused, given}
 use Rattle.octets.specs.Octets.{bytes}
 use Rattle.octets.specs.Text.{ascii}
 use Rattle.hkdf.specs.Hkdf.{info}
-use Rattle.wire.specs.Integer.{integer}
-use Rattle.wire.specs.Numbers.{upTo, smallestLength, shortened, recovered}
+use Rattle.numbers.specs.Integer.{integer}
+use Rattle.numbers.specs.Numbers.{upTo, smallestLength, shortened, recovered}
 use Rattle.packets.specs.Protection.{masked}
 
 pub record Table : Type 0 where

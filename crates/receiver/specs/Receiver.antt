@@ -5,9 +5,9 @@ use mathlib.Core.List.{List, [], _∷_, _++_}
 use lib.ListN.{length}
 use Rattle.octets.specs.Outcome.{Outcome, refused, given}
 use Rattle.octets.specs.Octets.{placed}
-use Rattle.wire.specs.Numbers.{Acknowledged, numbers, Near}
+use Rattle.numbers.specs.Numbers.{Acknowledged, numbers, Near}
 use Rattle.wire.specs.Header.{limit, tagLength}
-use Rattle.wire.specs.Written.{Plain}
+use Rattle.writing.specs.Written.{Plain}
 use Rattle.packets.specs.Suite.{Suite, Laws}
 use Rattle.packets.specs.Protection.{Keys}
 use Rattle.packets.specs.Packet.{sealed, Opened, opened}

@@ -9,8 +9,8 @@ use Rattle.octets.proofs.Buffers.{begun-front, goes-on}
 use Rattle.aes128.specs.Expansion.{expansion}
 use Rattle.gcm.specs.Gcm.{hashKey, tagBy, tag}
 use Rattle.wire.specs.Versions.{version}
-use Rattle.wire.specs.Written.{longFirst, longFields}
-use Rattle.wire.proofs.Forms.{long-length}
+use Rattle.writing.specs.Written.{longFirst, longFields}
+use Rattle.writing.proofs.Forms.{long-length}
 use Rattle.gcm.proofs.Laws.{tag-length}
 use Rattle.wire.specs.Header.{tagLength}
 use Rattle.retry.specs.Retry.{untagged, pseudoPacket, retryTag, tagged}

@@ -10,11 +10,11 @@ use Rattle.octets.specs.Outcome.{given}
 use Rattle.wire.specs.Versions.{version}
 use Rattle.wire.specs.Header.{long, tagLength}
 use Rattle.wire.specs.HeaderAnswers.{handed}
-use Rattle.wire.specs.Written.{longFirst, longFields}
+use Rattle.writing.specs.Written.{longFirst, longFields}
 use Rattle.wire.proofs.Versions.{retry-fits}
 use Rattle.wire.proofs.Headers.{handed-part}
-use Rattle.wire.proofs.HeaderBack.{first-form, long-read, longPlaces, behind-ids, destination-back, source-back}
-use Rattle.wire.proofs.Places.{At, part-at}
+use Rattle.writing.proofs.HeaderBack.{first-form, long-read, longPlaces, behind-ids, destination-back, source-back}
+use Rattle.writing.proofs.Places.{At, part-at}
 use Rattle.octets.specs.Octets.{same}
 use Rattle.octets.proofs.Same.{equal-same}
 use Rattle.retry.specs.Retry.{RetryFields, untagged, retryTag, tagged, retryWritten, tokenAt, retryChecked}

@@ -7,7 +7,7 @@ use lib.ListN.{length, take, drop}
 use Rattle.octets.specs.Outcome.{Outcome, given, unless, _>>=_, _>>_}
 use Rattle.wire.specs.Versions.{known, version}
 use Rattle.wire.specs.Header.{Place, behind, limit, longestId, whole, long, tagLength}
-use Rattle.wire.specs.Written.{longFirst, withLength, longFields}
+use Rattle.writing.specs.Written.{longFirst, withLength, longFields}
 use Rattle.gcm.specs.Gcm.{tag}
 use Rattle.octets.specs.Octets.{same}
 

@@ -68,7 +68,7 @@ fn write_packet(
     ensures { λ r. ⌜ Begins (tagged number (now (original .entry)) (untagged number (now (destination .entry)) (now (source .entry)) (now (token .entry)) «low_bits»)) (now (buffer .entry)) (now (buffer .exit)) r ⌝ }
 {
     let first = 0xc0 + version::retry_type(number) * 16 + (low_bits % 16) as u8;
-    let token_at = wire::writing::write_long(buffer, first, number, destination, source);
+    let token_at = writing::write_long(buffer, first, number, destination, source);
     octets::copy(buffer, token_at, token);
     let tag_at = token_at + token.len();
     let tag = tag_of(number, original, &buffer[..tag_at]);

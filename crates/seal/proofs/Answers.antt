@@ -9,9 +9,9 @@ use Rattle.octets.specs.Outcome.{refused, given}
 use Rattle.octets.specs.Octets.{begun}
 use Rattle.octets.proofs.Buffers.{refused-placed, given-placed}
 use Rattle.wire.specs.Versions.{known}
-use Rattle.wire.specs.Numbers.{Acknowledged, shortened}
+use Rattle.numbers.specs.Numbers.{Acknowledged, shortened}
 use Rattle.wire.specs.Header.{limit, longestId}
-use Rattle.wire.specs.Written.{Plain}
+use Rattle.writing.specs.Written.{Plain}
 use Rattle.packets.specs.Protection.{Keys}
 use Rattle.packets.specs.Packet.{packetOf, sealed}
 use Rattle.packets.specs.AesGcm.{aesGcm}

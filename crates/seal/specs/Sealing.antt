@@ -5,9 +5,9 @@ use mathlib.Core.List.{List}
 use lib.ListN.{length}
 use Rattle.octets.specs.Outcome.{Outcome, refused, given}
 use Rattle.octets.specs.Octets.{begun, placed, lengthGiven}
-use Rattle.wire.specs.Numbers.{Acknowledged}
+use Rattle.numbers.specs.Numbers.{Acknowledged}
 use Rattle.wire.specs.Header.{limit, longestId}
-use Rattle.wire.specs.Written.{Plain, smallest, lengthOf, front, plainHeader}
+use Rattle.writing.specs.Written.{Plain, smallest, lengthOf, front, plainHeader}
 use Rattle.packets.specs.Protection.{Keys}
 use Rattle.packets.specs.Packet.{sealed}
 use Rattle.packets.specs.AesGcm.{aesGcm}

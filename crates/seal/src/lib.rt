@@ -1,21 +1,21 @@
 // Sealing: RFC 9001 section 5, as document 01 has it written.
+use numbers::packet::Acknowledged;
+use numbers::packet::FullPn;
+use numbers::packet::Shortened;
+use numbers::packet::shorten;
 use octets::refusal;
 use packets::Keys;
 use wire::header::LIMIT;
 use wire::header::LONGEST_ID;
 use wire::header::TAG_LENGTH;
-use wire::number::Acknowledged;
-use wire::number::FullPn;
-use wire::number::Shortened;
-use wire::number::shorten;
 ghost use mathlib.Core.Path.{_≡_};
 ghost use Prim.Native.Nat.{_+_, _-_, _<_, _≤_};
 ghost use lib.ListN.{length, take};
 ghost use Rattle.octets.specs.Octets.{begun, laid, part};
 ghost use Rattle.gcm.specs.Gcm.{tagBy, hashKey};
 ghost use Rattle.wire.specs.Header.{limit};
-ghost use Rattle.wire.specs.Written.{smallest};
-ghost use Rattle.wire.specs.Answers.{acknowledgedOf};
+ghost use Rattle.writing.specs.Written.{smallest};
+ghost use Rattle.numbers.specs.Answers.{acknowledgedOf};
 ghost use Rattle.packets.specs.KeyRecord.{keysOf};
 ghost use Rattle.packets.specs.Protection.{masked};
 ghost use Rattle.packets.specs.Packet.{bodyWith, packetOf};
@@ -44,15 +44,7 @@ fn write_header(
 {
     let first = 0xc0 + wire::version::initial_type(version) * 16 + (count - 1) as u8;
     let counted = count + payload.len() + TAG_LENGTH;
-    let place = wire::writing::write_initial(
-        buffer,
-        first,
-        version,
-        destination,
-        source,
-        token,
-        counted,
-    );
+    let place = writing::write_initial(buffer, first, version, destination, source, token, counted);
     octets::store(buffer, place, count, number);
     place
 }
@@ -146,7 +138,7 @@ fn size_of(count: usize, destination: usize, source: usize, token: usize, payloa
     9
         + destination
         + source
-        + wire::writing::smallest_form(token)
+        + writing::smallest_form(token)
         + token
         + (count + payload + TAG_LENGTH)
 }

@@ -1,16 +1,16 @@
 // RFC 9000 section 16, section 17.1 and appendix A, and document 01's lines on either side of a boundary.
 use crate::print;
-use wire::integer::Integer;
-use wire::integer::read_integer;
-use wire::number::Acknowledged;
-use wire::number::FullPn;
-use wire::number::Recovered;
-use wire::number::Shortened;
-use wire::number::Smallest;
-use wire::number::TruncatedPn;
-use wire::number::recover;
-use wire::number::shorten;
-use wire::number::smallest_length;
+use numbers::integer::Integer;
+use numbers::integer::read_integer;
+use numbers::packet::Acknowledged;
+use numbers::packet::FullPn;
+use numbers::packet::Recovered;
+use numbers::packet::Shortened;
+use numbers::packet::Smallest;
+use numbers::packet::TruncatedPn;
+use numbers::packet::recover;
+use numbers::packet::shorten;
+use numbers::packet::smallest_length;
 
 pub fn run() {
     integers();

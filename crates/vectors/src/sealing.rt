@@ -2,11 +2,11 @@
 use crate::print;
 use keys::Side;
 use keys::initial_keys;
+use numbers::packet::Acknowledged;
+use numbers::packet::FullPn;
 use packets::Keys;
 use seal::Sealing;
 use seal::seal;
-use wire::number::Acknowledged;
-use wire::number::FullPn;
 ghost use Prim.Native.Nat.{_≤_};
 
 pub fn run() {

@@ -12,7 +12,7 @@ use Rattle.octets.proofs.Parts.{part-length}
 use Rattle.octets.proofs.Bytes.{part-bytes}
 use Rattle.octets.proofs.Numbers.{number-lt}
 use Rattle.octets.proofs.Outcome.{passed, stepped, given-same}
-use Rattle.wire.specs.Integer.{Integer, integer}
+use Rattle.numbers.specs.Integer.{Integer, integer}
 use Rattle.wire.specs.Header.{Place, behind, whole, longestId, leastLength, idAt, integerAt, fieldAt, restAt}
 
 -- a field that was looked for from a place on stands behind that place, and all of it within the datagram

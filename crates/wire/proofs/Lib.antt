@@ -1,11 +1,4 @@
-pub mod Integers
-pub mod Numbers
-pub mod Recovery
-pub mod Forms
 pub mod Versions
 pub mod Fields
 pub mod Headers
-pub mod Places
-pub mod IntegersBack
-pub mod HeaderBack
 pub mod OneAnswer

@@ -1,9 +1,9 @@
 // RFC 9000 sections 17.2 and 17.2.2: the long header, read field by field in document 01's order of refusals.
-use crate::integer::Integer;
-use crate::integer::read_integer;
 use crate::version::initial_type;
 use crate::version::is_known;
 use crate::version::retry_type;
+use numbers::integer::Integer;
+use numbers::integer::read_integer;
 use octets::refusal;
 ghost use mathlib.Core.Path.{_≡_};
 ghost use Prim.Native.Nat.{_+_, _≤_};

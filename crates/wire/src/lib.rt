@@ -1,6 +1,3 @@
-// RFC 9000 sections 16 and 17: what stands on the wire.
+// RFC 9000 section 17.2: the long header as it is read, and what differs by version.
 pub mod header;
-pub mod integer;
-pub mod number;
 pub mod version;
-pub mod writing;

@@ -5,7 +5,7 @@ use borrow.Author.Needs.{needs}
 use native.Mathlib.Omega.{arith}
 use lib.ListN.{length}
 use lib.Seq.{length-take-le}
-use Rattle.wire.proofs.Forms.{long-length}
+use Rattle.writing.proofs.Forms.{long-length}
 use Rattle.wire.proofs.Versions.{retry-fits}
 use Rattle.octets.proofs.Parts.{front-short}
 use Rattle.retry.proofs.Packets.{token-laid, tag-laid}

@@ -6,7 +6,7 @@ use native.Mathlib.Omega.{arith}
 use lib.ListN.{length}
 use Rattle.octets.specs.Octets.{bytes}
 use Rattle.octets.proofs.Buffers.{goes-on}
-use Rattle.wire.specs.Written.{firstByte, initialFields}
+use Rattle.writing.specs.Written.{firstByte, initialFields}
 use Rattle.wire.proofs.Versions.{initial-fits}
 use Rattle.seal.proofs.Protecting.{fields-end}
 use Rattle.seal.proofs.write_header.Statement.{statement}

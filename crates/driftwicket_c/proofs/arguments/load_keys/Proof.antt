@@ -4,7 +4,7 @@ use borrow.Author.Needs.{needs}
 use native.Mathlib.Omega.{arith}
 use lib.ListN.{replicate}
 use Rattle.wire.proofs.Fields.{four-bytes}
-use Rattle.packets.proofs.Filled.{whole-part}
+use Rattle.octets.proofs.Buffers.{whole-part}
 use Rattle.driftwicket_c.proofs.KeyRecords.{keys-read}
 use Rattle.driftwicket_c.proofs.arguments.load_keys.Statement.{statement}
 use Rattle.driftwicket_c.proofs.arguments.load_keys.Tie as tie

@@ -1,0 +1,4 @@
+pub mod Integers
+pub mod Numbers
+pub mod Recovery
+pub mod OneAnswer

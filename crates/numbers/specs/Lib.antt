@@ -1,0 +1,3 @@
+pub mod Integer
+pub mod Numbers
+pub mod Answers
