@@ -1,5 +1,5 @@
 # Driftwicket: the two commands are `make demo` and `make test`.
-.PHONY: demo test
+.PHONY: demo test lib bench
 
 # Prove the library and the program of vectors, run it, and show what it wrote: `rt check` has held that to the papers' values.
 demo:
@@ -20,3 +20,11 @@ test:
 	@cd second && cargo test --quiet --lib --target-dir ../target/second
 	@echo "Proving every crate from nothing, trying every edit, running every program ..."
 	@rt ci
+
+# The static library for C and Rust, for the machine at hand.
+lib:
+	@tools/library
+
+# The library's speed beside OpenSSL's, as docs/BENCH.md has it: never a part of the gate.
+bench: lib
+	@tools/bench
