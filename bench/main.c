@@ -1,7 +1,9 @@
 /* Times our library beside OpenSSL's portable and hardware paths, and prints the tables of docs/BENCH.md.
    bench [ROUNDS]: every piece of work by every side in turn, ROUNDS times (9 where none is given), and the median of the rounds. */
+#define _POSIX_C_SOURCE 200809L
 #include "worker.h"
 
+#include <signal.h>
 #include <stdio.h>
 #include <stdlib.h>
 #include <string.h>
@@ -106,14 +108,14 @@ static void packet_row(const char *words, enum kind kind) {
     const struct task *t = find(kind, 1200);
     printf("| %s", words);
     for (int side = 0; side < SIDES; side++)
-        if (side != BY_BITS) printf(" | %.0f, %.0f", 1e9 / t->median[side], rate(t, side));
+        if (side != BY_BITS) printf(" | %.0f; %.0f", 1e9 / t->median[side], rate(t, side));
     printf(" | %.2f | %.3f |\n", share(t, PORTABLE), share(t, HARDWARE));
 }
 
 static void packets_of_1200(void) {
     const struct task *keys = find(KEYS, 0);
     printf("\n### Initial packets of 1,200 bytes\n\n");
-    printf("Packets a second and MB/s.\n\n");
+    printf("Packets a second; MB/s.\n\n");
     printf("| work | ours | OpenSSL, portable | OpenSSL, hardware | ours to portable | ours to hardware |\n|---|---|---|---|---|---|\n");
     packet_row("seal, keys made once", SEAL_KEPT);
     packet_row("seal, keys made afresh", SEAL_FRESH);
@@ -165,6 +167,7 @@ int main(int argc, char **argv) {
     if (argc == 3 && strcmp(argv[1], "--worker") == 0) return be_worker(argv[2]);
     if (argc == 2) rounds = atoi(argv[1]);
     if (argc > 2 || rounds < 1 || rounds > MOST_ROUNDS) give_up("usage: bench [ROUNDS], 1 to 99");
+    signal(SIGPIPE, SIG_IGN); /* a worker that has ended is told in words */
     workers[OURS] = start_worker(argv[0], "ours", 0);
     workers[BY_BITS] = start_worker(argv[0], "by-bits", 0);
     workers[PORTABLE] = start_worker(argv[0], "openssl", 1);
