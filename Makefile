@@ -1,5 +1,13 @@
 # Driftwicket: the two commands are `make demo` and `make test`.
-.PHONY: demo test lib bench
+.PHONY: demo layout lib rust second test
+# `make test` asks for its parts in their order.
+.NOTPARALLEL:
+
+# Nothing is taken from a network, and little is said.
+cargo = cargo --quiet --offline --locked
+
+# How often the second program does everything: `make second TIMES=100` for many more comparisons.
+TIMES = 4
 
 # Prove the library and the program of vectors, run it, and show what it wrote: `rt check` has held that to the papers' values.
 demo:
@@ -9,22 +17,54 @@ demo:
 	@echo "Proved. The program wrote, as the papers have it:"
 	@cut -c 1-110 crates/vectors/stdout
 
-# The gate: the layout, the names that the documents cite, the second program's own tests; then every proof, every edit that
-# must be refused and every program, from nothing. `rt ci` stays the last command: its last line is the verdict.
-test:
+# The static library for C and for Rust: target/staticlib/libdriftwicket.a, for the machine at hand. Its header is
+# include/driftwicket.h.
+lib:
+	@echo "Proving the library for C and compiling it (some minutes the first time) ..."
+	@tools/library
+
+# What stands beside the library links the archive just built, and none that is named from outside.
+second rust: export DRIFTWICKET_LIB_DIR = $(CURDIR)/target/staticlib
+
+# The second program: its own rules by the papers' vectors, and then every entry point of the library by its rules.
+second: lib
+	@echo "Testing the second program's own rules ..."
+	@cd second && $(cargo) test --lib --target-dir ../target/second
+	@cd second && $(cargo) run --release --target-dir ../target/second -- $(TIMES)
+
+# The library from Rust: its tests and the examples of its documents.
+rust: lib
+	@echo "Testing the library from Rust ..."
+	@cd rust && $(cargo) test --target-dir ../target/rust
+
+layout:
 	@echo "Checking the layout ..."
 	@rt fmt --check
 	@echo "Checking the names that the documents cite ..."
 	@tools/trace
-	@echo "Testing the second program's own rules ..."
-	@cd second && cargo test --quiet --lib --target-dir ../target/second
+
+# The gate: the layout, the names that the documents cite, the library against the second program and from Rust; then every
+# proof, every edit that must be refused and every program, from nothing. `rt ci` stays the last command: its last line is
+# the verdict.
+test: layout lib second rust
 	@echo "Proving every crate from nothing, trying every edit, running every program ..."
 	@rt ci
 
-# The static library for C and Rust, for the machine at hand.
-lib:
-	@tools/library
-
-# The library's speed beside OpenSSL's, as docs/BENCH.md has it: never a part of the gate.
-bench: lib
+# The library's speed beside OpenSSL's: docs/BENCH.md. No part of the gate. What is missing is said before the library is
+# proved.
+.PHONY: bench bench-needs
+bench: bench-needs lib
 	@tools/bench
+
+bench-needs:
+	@tools/bench --needs
+
+# The library against programs that share nothing with it, ngtcp2 and tshark: interop/README.md. What is missing is said
+# before the library is proved.
+.PHONY: interop interop-needs
+interop: interop-needs lib
+	@echo "Exchanging packets with ngtcp2 and letting tshark read them ..."
+	@interop/run
+
+interop-needs:
+	@interop/run --needs

@@ -1,9 +1,11 @@
 //! The static library: its C interface, and a safe function over each entry point that tells the call's whole effect.
 //!
 //! What is lent stands between sentinels, and the report starts out as sentinels too. So an effect also tells what a
-//! call touched that it must leave: the words and bytes beside what was lent, and on a refusal the report and the output.
+//! call touched that it must leave: its inputs, the words and bytes beside what was lent, and on a refusal the report
+//! and the output.
 
 use crate::effect::Effect;
+use second::retry::Plain;
 
 #[link(name = "driftwicket", kind = "static")]
 extern "C" {
@@ -99,8 +101,33 @@ impl<T: Copy + PartialEq> Lent<T> {
     }
 }
 
+/// The longest input that is copied.
+const LONGEST_COPY: usize = 100_000;
+
+/// Bytes that a call may only read: a copy, so that a change shows. What is too long to copy is passed as it stands.
+struct Input<'a> {
+    bytes: &'a [u8],
+    copy: Option<Lent<u8>>,
+}
+
+impl<'a> Input<'a> {
+    fn new(bytes: &'a [u8]) -> Input<'a> {
+        let copy = (bytes.len() <= LONGEST_COPY).then(|| Lent::new(bytes, SENTINEL_BYTE));
+        Input { bytes, copy }
+    }
+
+    fn pointer(&mut self) -> *const u8 {
+        self.copy.as_mut().map_or(self.bytes.as_ptr(), |copy| copy.pointer().cast_const())
+    }
+
+    fn is_changed(&self) -> bool {
+        self.copy.as_ref().is_some_and(|copy| copy.is_spilled() || copy.content() != self.bytes)
+    }
+}
+
 /// Everything lent to one call.
 struct Loan<'a, const WORDS: usize> {
+    inputs: Vec<Input<'a>>,
     report: Lent<u64>,
     output: Lent<u8>,
     output_before: &'a [u8],
@@ -112,12 +139,23 @@ impl<'a, const WORDS: usize> Loan<'a, WORDS> {
     /// An output and an expected number, which not every call takes.
     fn new(output: &'a [u8], expected: u64) -> Loan<'a, WORDS> {
         Loan {
+            inputs: Vec::new(),
             report: Lent::new(&[SENTINEL_WORD; WORDS], SENTINEL_WORD),
             output: Lent::new(output, SENTINEL_BYTE),
             output_before: output,
             expected: Lent::new(&[expected], SENTINEL_WORD),
             expected_before: expected,
         }
+    }
+
+    /// Lends some bytes to be read; their lengths are the slices' own.
+    fn read<const N: usize>(&mut self, inputs: [&'a [u8]; N]) -> [*const u8; N] {
+        inputs.map(|bytes| {
+            let mut input = Input::new(bytes);
+            let pointer = input.pointer();
+            self.inputs.push(input);
+            pointer
+        })
     }
 
     fn effect(self, number: u32) -> Effect<WORDS> {
@@ -134,6 +172,7 @@ impl<'a, const WORDS: usize> Loan<'a, WORDS> {
     fn strays(&self, refused: bool) -> Vec<&'static str> {
         let report_touched = self.report.content().iter().any(|word| *word != SENTINEL_WORD);
         let tests = [
+            (self.inputs.iter().any(Input::is_changed), "an input was changed"),
             (self.report.is_spilled(), "words beside the report were touched"),
             (self.output.is_spilled(), "bytes beside the output were touched"),
             (self.expected.is_spilled(), "words beside the expected number were touched"),
@@ -145,13 +184,14 @@ impl<'a, const WORDS: usize> Loan<'a, WORDS> {
     }
 }
 
-// SAFETY, for every call below: each pointer comes from a slice or from a loan that outlives the call and has the length
-// that the call is told; keys are 48 bytes; a loan's report has the words that the C interface names. An empty slice's
-// pointer is not null.
+// SAFETY, for every call below: each pointer comes from a loan, which outlives the call, and stands at as many bytes or
+// words as the call is told; keys are 48 bytes; a loan's report has the words that the C interface names. An empty
+// slice's pointer is not null.
 
 pub fn read_integer(bytes: &[u8]) -> Effect<2> {
     let mut loan = Loan::new(&[], 0);
-    let number = unsafe { dw_read_integer(bytes.as_ptr(), bytes.len(), loan.report.pointer()) };
+    let [at] = loan.read([bytes]);
+    let number = unsafe { dw_read_integer(at, bytes.len(), loan.report.pointer()) };
     loan.effect(number)
 }
 
@@ -176,8 +216,8 @@ pub fn recover(expected: u64, truncated: u64, length: usize) -> Effect<1> {
 /// The keys are the output; there is no report.
 pub fn initial_keys(version: u32, destination: &[u8], server: u32, keys: &[u8; 48]) -> Effect<0> {
     let mut loan = Loan::new(keys, 0);
-    let number =
-        unsafe { dw_initial_keys(version, destination.as_ptr(), destination.len(), server, loan.output.pointer()) };
+    let [at] = loan.read([destination]);
+    let number = unsafe { dw_initial_keys(version, at, destination.len(), server, loan.output.pointer()) };
     loan.effect(number)
 }
 
@@ -198,20 +238,22 @@ pub fn seal(arguments: &SealArguments, output: &[u8]) -> Effect<1> {
     let SealArguments { keys, number, any_acknowledged, acknowledged, length, destination, source, token, payload } =
         *arguments;
     let mut loan = Loan::new(output, 0);
+    let [keys_at, destination_at, source_at, token_at, payload_at] =
+        loan.read([keys, destination, source, token, payload]);
     let number = unsafe {
         dw_seal(
-            keys.as_ptr(),
+            keys_at,
             number,
             any_acknowledged,
             acknowledged,
             length,
-            destination.as_ptr(),
+            destination_at,
             destination.len(),
-            source.as_ptr(),
+            source_at,
             source.len(),
-            token.as_ptr(),
+            token_at,
             token.len(),
-            payload.as_ptr(),
+            payload_at,
             payload.len(),
             loan.output.pointer(),
             output.len(),
@@ -223,11 +265,12 @@ pub fn seal(arguments: &SealArguments, output: &[u8]) -> Effect<1> {
 
 pub fn open(keys: &[u8; 48], expected: u64, datagram: &[u8], output: &[u8]) -> Effect<5> {
     let mut loan = Loan::new(output, expected);
+    let [keys_at, datagram_at] = loan.read([keys, datagram]);
     let number = unsafe {
         dw_open(
-            keys.as_ptr(),
+            keys_at,
             loan.expected.pointer(),
-            datagram.as_ptr(),
+            datagram_at,
             datagram.len(),
             loan.output.pointer(),
             output.len(),
@@ -239,24 +282,27 @@ pub fn open(keys: &[u8; 48], expected: u64, datagram: &[u8], output: &[u8]) -> E
 
 pub fn read_header(datagram: &[u8]) -> Effect<9> {
     let mut loan = Loan::new(&[], 0);
-    let number = unsafe { dw_read_header(datagram.as_ptr(), datagram.len(), loan.report.pointer()) };
+    let [at] = loan.read([datagram]);
+    let number = unsafe { dw_read_header(at, datagram.len(), loan.report.pointer()) };
     loan.effect(number)
 }
 
-pub fn write_retry(plain: &second::retry::Plain, output: &[u8]) -> Effect<1> {
+pub fn write_retry(plain: &Plain, output: &[u8]) -> Effect<1> {
+    let Plain { version, original, destination, source, token, low_bits } = *plain;
     let mut loan = Loan::new(output, 0);
+    let [original_at, destination_at, source_at, token_at] = loan.read([original, destination, source, token]);
     let number = unsafe {
         dw_write_retry(
-            plain.version,
-            plain.original.as_ptr(),
-            plain.original.len(),
-            plain.destination.as_ptr(),
-            plain.destination.len(),
-            plain.source.as_ptr(),
-            plain.source.len(),
-            plain.token.as_ptr(),
-            plain.token.len(),
-            plain.low_bits,
+            version,
+            original_at,
+            original.len(),
+            destination_at,
+            destination.len(),
+            source_at,
+            source.len(),
+            token_at,
+            token.len(),
+            low_bits,
             loan.output.pointer(),
             output.len(),
             loan.report.pointer(),
@@ -267,8 +313,8 @@ pub fn write_retry(plain: &second::retry::Plain, output: &[u8]) -> Effect<1> {
 
 pub fn check_retry(original: &[u8], datagram: &[u8]) -> Effect<7> {
     let mut loan = Loan::new(&[], 0);
-    let number = unsafe {
-        dw_check_retry(original.as_ptr(), original.len(), datagram.as_ptr(), datagram.len(), loan.report.pointer())
-    };
+    let [original_at, datagram_at] = loan.read([original, datagram]);
+    let number =
+        unsafe { dw_check_retry(original_at, original.len(), datagram_at, datagram.len(), loan.report.pointer()) };
     loan.effect(number)
 }

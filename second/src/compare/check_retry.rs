@@ -1,7 +1,7 @@
 //! `dw_check_retry`: RFC 9000 section 17.2.5, RFC 9001 section 5.8.
 
 use super::damage;
-use super::faults::{put_in, small_sets, Fault};
+use super::faults::{each_set, small_sets, Fault};
 use super::sample::{self, MILLION, VERSIONS};
 use super::write_retry::WriteRetry;
 use super::{Call, Entry, Hex, Tally};
@@ -211,11 +211,10 @@ const FAULTS: [Fault<Arrival>; 18] = [
 ];
 
 fn fault_sets(tally: &mut Tally, random: &mut Random) {
-    for set in small_sets(FAULTS.len(), 40, random) {
-        let mut arrival = Arrival::valid(random);
-        let known = put_in(&FAULTS, &set, &mut arrival, random);
+    let sets = small_sets(FAULTS.len(), 40, random);
+    each_set(&FAULTS, sets, random, Arrival::valid, |arrival, known, _| {
         tally.compare_knowing(&CheckRetry { original: &arrival.original, datagram: &arrival.datagram }, known);
-    }
+    });
 }
 
 fn rubbish(tally: &mut Tally, random: &mut Random) {

@@ -3,7 +3,7 @@
 use super::arrival::{opening_faults, Arrival};
 use super::damage::{self, Sealed};
 use super::draft::{expected_for, Draft};
-use super::faults::{put_in, small_sets};
+use super::faults::{each_set, small_sets};
 use super::receiver;
 use super::sample::{self, near, MILLION, VERSIONS};
 use super::{Call, Entry, Hex, Tally};
@@ -104,7 +104,9 @@ fn rooms(tally: &mut Tally, random: &mut Random) {
         let sealed = good(random, version);
         let expected = expected_of(random, &sealed);
         let needed = sealed.packet.len() - 16;
-        for room in [0, 1, needed - 16, needed - 2, needed - 1, needed, needed + 1, needed + 15, needed + 16, 1_600] {
+        // the smallest packets have fewer bytes before their tag than it has
+        let less_a_tag = needed.saturating_sub(16);
+        for room in [0, 1, less_a_tag, needed - 2, needed - 1, needed, needed + 1, needed + 15, needed + 16, 1_600] {
             let output = random.bytes(room);
             let call = Open { keys: &sealed.record, expected, datagram: &sealed.packet, output: &output };
             tally.compare_knowing(&call, if room < needed { 8 } else { 0 });
@@ -212,13 +214,12 @@ fn windows(tally: &mut Tally, random: &mut Random) {
 
 fn fault_sets(tally: &mut Tally, random: &mut Random) {
     let faults = opening_faults();
-    for set in small_sets(faults.len(), 32, random) {
-        let mut arrival = Arrival::valid(random);
-        let known = put_in(&faults, &set, &mut arrival, random);
+    let sets = small_sets(faults.len(), 32, random);
+    each_set(&faults, sets, random, Arrival::valid, |arrival, known, random| {
         let (datagram, output) = (arrival.datagram(random), arrival.output(random));
         let call = Open { keys: &arrival.record, expected: arrival.expected, datagram: &datagram, output: &output };
         tally.compare_knowing(&call, known);
-    }
+    });
 }
 
 /// Every bit of the key record matters.

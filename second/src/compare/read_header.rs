@@ -3,7 +3,7 @@
 use super::arrival::{Arrival, HEADER_FAULTS};
 use super::damage::{self, Sealed};
 use super::draft::Draft;
-use super::faults::{put_in, small_sets};
+use super::faults::{each_set, small_sets};
 use super::sample::{self, MILLION, VERSIONS};
 use super::{Call, Entry, Hex, Tally};
 use crate::effect::Effect;
@@ -110,11 +110,10 @@ fn claims(tally: &mut Tally, random: &mut Random) {
 }
 
 fn fault_sets(tally: &mut Tally, random: &mut Random) {
-    for set in small_sets(HEADER_FAULTS.len(), 32, random) {
-        let mut arrival = Arrival::valid(random);
-        let known = put_in(&HEADER_FAULTS, &set, &mut arrival, random);
+    let sets = small_sets(HEADER_FAULTS.len(), 32, random);
+    each_set(&HEADER_FAULTS, sets, random, Arrival::valid, |arrival, known, random| {
         tally.compare_knowing(&ReadHeader(&arrival.datagram(random)), known);
-    }
+    });
 }
 
 /// Bytes that start as an Initial does, so that something is read before they are refused.

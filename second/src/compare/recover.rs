@@ -1,5 +1,6 @@
 //! `dw_recover`: RFC 9000 appendix A.3.
 
+use super::faults::{each_set, every_set, Fault};
 use super::sample::{self, near, WRONG_LENGTHS};
 use super::{Call, Entry, Tally};
 use crate::effect::Effect;
@@ -14,7 +15,7 @@ pub const ENTRY: Entry = Entry {
         ("every byte, around 0, around 2^62 and around any number", every_byte),
         ("the edges of each window and half window, in each length", window_edges),
         ("any numbers in any length", any),
-        ("faults by twos", faults),
+        ("every set of faults", fault_sets),
     ],
     refusals: &[10, 12],
 };
@@ -92,28 +93,21 @@ fn any(tally: &mut Tally, random: &mut Random) {
     }
 }
 
-/// The order is 10 for what is expected, 12, and 10 for what is recovered.
-fn faults(tally: &mut Tally, random: &mut Random) {
-    for round in 0..8_000 {
+/// In document 01's order: 10 for what is expected, 12, and 10 for what is recovered.
+const FAULTS: [Fault<Recover>; 4] = [
+    (10, |call, random| call.expected = NUMBER_LIMIT + 1 + (random.word() >> 2 >> random.below(62))),
+    (12, |call, random| call.length = random.pick(&WRONG_LENGTHS)),
+    (12, |call, random| call.truncated = (1 << (8 * call.length)) + (sample::number(random) >> 1)),
+    (10, |call, random| call.truncated = random.below(129)),
+];
+
+/// Faultless is the greatest number of all, where 2^62 is expected.
+fn fault_sets(tally: &mut Tally, random: &mut Random) {
+    let faultless = |random: &mut Random| {
         let length = random.between(1..=4);
-        let mut call = Recover { expected: NUMBER_LIMIT, truncated: (1 << (8 * length)) - 1, length };
-        let mut known = 0;
-        if round & 1 != 0 {
-            call.truncated = random.below(129);
-            known = 10;
-        }
-        if round & 2 != 0 {
-            call.length = random.pick(&WRONG_LENGTHS);
-            known = 12;
-        }
-        if round & 4 != 0 {
-            call.truncated = (1 << (8 * length)) + (sample::number(random) >> 1);
-            known = 12;
-        }
-        if round & 8 != 0 {
-            call.expected = NUMBER_LIMIT + 1 + (random.word() >> 2 >> random.below(62));
-            known = 10;
-        }
-        tally.compare_knowing(&call, known);
-    }
+        Recover { expected: NUMBER_LIMIT, truncated: (1 << (8 * length)) - 1, length }
+    };
+    each_set(&FAULTS, every_set(FAULTS.len(), 500), random, faultless, |call, known, _| {
+        tally.compare_knowing(call, known);
+    });
 }

@@ -1,6 +1,6 @@
 //! `dw_seal`: RFC 9001 sections 5.3 and 5.4.
 
-use super::faults::{every_set, put_in, Fault};
+use super::faults::{each_set, every_set, Fault};
 use super::sample::{self, Bytes, MILLION, WRONG_LENGTHS};
 use super::shorten::Gap;
 use super::{Call, Entry, Hex, Tally};
@@ -9,7 +9,7 @@ use crate::library::{self, SealArguments};
 use crate::random::Random;
 use second::integer;
 use second::keys::Keys;
-use second::numbers::{smallest_length, NUMBER_LIMIT};
+use second::numbers::smallest_length;
 use second::seal::{seal, Plain};
 use std::borrow::Cow;
 use std::fmt::{self, Display, Formatter};
@@ -102,6 +102,14 @@ impl Seal {
             payload: random.bytes(payload).into(),
             output: Vec::new(),
         }
+    }
+
+    /// One with some token and payload, and room to be written in.
+    fn faultless(random: &mut Random) -> Seal {
+        let (token, payload) = (random.between(0..=70), random.between(4..=70));
+        let mut call = Seal::valid(random, token, payload);
+        call.lend_enough(random);
+        call
     }
 
     /// The packet's bytes, by the sum of its fields (RFC 9000 section 17.2.2); no slice may be vast.
@@ -205,21 +213,15 @@ fn gaps(tally: &mut Tally, random: &mut Random) {
 }
 
 /// In document 01's order: 4, 10, 14, 12, 5, 7, 1, 8.
-const FAULTS: [Fault<Seal>; 8] = [
+const FAULTS: [Fault<Seal>; 9] = [
     (4, |call, random| {
         let version = sample::unknown_version(random);
         call.keys = sample::record(random, version);
     }),
-    (10, |call, random| call.gap.number = NUMBER_LIMIT + (random.word() >> 2 >> random.below(62))),
-    (14, |call, random| {
-        call.gap.any_acknowledged = 1;
-        call.gap.acknowledged = call.gap.number.saturating_add(random.below(3));
-        if random.one_in(3) {
-            call.gap.any_acknowledged = 0;
-            call.gap.number |= 1 << 31;
-        }
-    }),
+    (10, |call, random| call.gap.put_beyond(random)),
+    (14, |call, random| call.gap.put_uncovered(random)),
     (12, |call, random| call.length = random.pick(&WRONG_LENGTHS)),
+    (12, |call, random| (call.gap, call.length) = Gap::with_short_length(random)),
     (5, |call, random| {
         let long = sample::long_id(random);
         match random.below(3) {
@@ -248,15 +250,9 @@ const FAULTS: [Fault<Seal>; 8] = [
 ];
 
 fn fault_sets(tally: &mut Tally, random: &mut Random) {
-    for set in every_set(FAULTS.len()) {
-        for _ in 0..24 {
-            let (token, payload) = (random.between(0..=70), random.between(4..=70));
-            let mut call = Seal::valid(random, token, payload);
-            call.lend_enough(random);
-            let known = put_in(&FAULTS, &set, &mut call, random);
-            tally.compare_knowing(&call, known);
-        }
-    }
+    each_set(&FAULTS, every_set(FAULTS.len(), 12), random, Seal::faultless, |call, known, _| {
+        tally.compare_knowing(call, known);
+    });
 }
 
 /// Arguments that are right for the most part, each with a chance to be anything.

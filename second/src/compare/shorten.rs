@@ -1,5 +1,6 @@
 //! `dw_smallest_length` and `dw_shorten`: RFC 9000 section 17.1.
 
+use super::faults::{each_set, every_set, Fault};
 use super::sample::{self, distance, FLAGS, WRONG_LENGTHS};
 use super::{Call, Entry, Tally};
 use crate::effect::Effect;
@@ -21,6 +22,7 @@ pub const SMALLEST_LENGTH: Entry = Entry {
                 tally.compare(&SmallestLength(Gap::any(random)));
             }
         }),
+        ("every set of faults", smallest_length_faults),
     ],
     refusals: &[10, 14],
 };
@@ -30,7 +32,7 @@ pub const SHORTEN: Entry = Entry {
     parts: &[
         ("gaps on either side of what each length covers, in every length", shorten_edges),
         ("any numbers in any length", shorten_any),
-        ("faults by twos and threes", shorten_faults),
+        ("every set of faults", shorten_faults),
     ],
     refusals: &[10, 12, 14],
 };
@@ -82,6 +84,30 @@ impl Gap {
         }
         let acknowledged = sample::number(random) % (NUMBER_LIMIT - gap);
         Gap::above(random, acknowledged, acknowledged + gap)
+    }
+
+    /// One of at least 128, and a length that doesn't cover it: 12.
+    pub fn with_short_length(random: &mut Random) -> (Gap, usize) {
+        let length = random.between(1..=3);
+        let any = random.below(1 << 24);
+        let gap = (1 << (8 * length - 1)) + random.pick(&[0, 1, any]);
+        let acknowledged = random.below(NUMBER_LIMIT - gap);
+        (Gap::above(random, acknowledged, acknowledged + gap), length)
+    }
+
+    /// Puts the number above 2^62 − 1: 10.
+    pub fn put_beyond(&mut self, random: &mut Random) {
+        self.number = NUMBER_LIMIT + (random.word() >> 2 >> random.below(62));
+    }
+
+    /// Lets the acknowledged number not be below the number, or a number of 2^31 and more stand above nothing: 14.
+    pub fn put_uncovered(&mut self, random: &mut Random) {
+        *self = if random.one_in(3) {
+            Gap::above_nothing(random, self.number | 1 << 31)
+        } else {
+            let not_below = self.number.saturating_add(random.below(3));
+            Gap::above(random, not_below, self.number)
+        };
     }
 }
 
@@ -165,24 +191,30 @@ fn shorten_any(tally: &mut Tally, random: &mut Random) {
     }
 }
 
-/// Every set of faults; the first in the order 10, 14, 12 is the answer.
+/// In document 01's order: 10, 14.
+const SMALLEST_LENGTH_FAULTS: [Fault<SmallestLength>; 2] =
+    [(10, |call, random| call.0.put_beyond(random)), (14, |call, random| call.0.put_uncovered(random))];
+
+fn smallest_length_faults(tally: &mut Tally, random: &mut Random) {
+    let sets = every_set(SMALLEST_LENGTH_FAULTS.len(), 2_000);
+    let faultless = |random: &mut Random| SmallestLength(Gap::covered(random));
+    each_set(&SMALLEST_LENGTH_FAULTS, sets, random, faultless, |call, known, _| {
+        tally.compare_knowing(call, known);
+    });
+}
+
+/// In document 01's order: 10, 14, 12.
+const SHORTEN_FAULTS: [Fault<Shorten>; 4] = [
+    (10, |call, random| call.gap.put_beyond(random)),
+    (14, |call, random| call.gap.put_uncovered(random)),
+    (12, |call, random| call.length = random.pick(&WRONG_LENGTHS)),
+    (12, |call, random| (call.gap, call.length) = Gap::with_short_length(random)),
+];
+
 fn shorten_faults(tally: &mut Tally, random: &mut Random) {
-    for round in 0..16_000 {
-        let mut call = Shorten { gap: Gap::covered(random), length: 4 };
-        let mut known = 0;
-        if round & 1 != 0 {
-            call.length = random.pick(&WRONG_LENGTHS);
-            known = 12;
-        }
-        if round & 2 != 0 {
-            let not_below = call.gap.number.saturating_add(random.below(3));
-            call.gap = Gap::above(random, not_below, call.gap.number);
-            known = 14;
-        }
-        if round & 4 != 0 {
-            call.gap.number = NUMBER_LIMIT + (random.word() >> 2 >> random.below(62));
-            known = 10;
-        }
-        tally.compare_knowing(&call, known);
-    }
+    let sets = every_set(SHORTEN_FAULTS.len(), 1_000);
+    let faultless = |random: &mut Random| Shorten { gap: Gap::covered(random), length: 4 };
+    each_set(&SHORTEN_FAULTS, sets, random, faultless, |call, known, _| {
+        tally.compare_knowing(call, known);
+    });
 }

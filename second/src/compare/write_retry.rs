@@ -1,6 +1,6 @@
 //! `dw_write_retry`: RFC 9000 section 17.2.5, RFC 9001 section 5.8.
 
-use super::faults::{every_set, put_in, Fault};
+use super::faults::{each_set, every_set, Fault};
 use super::sample::{self, Bytes, MILLION};
 use super::{Call, Entry, Hex, Tally};
 use crate::effect::Effect;
@@ -145,14 +145,13 @@ const FAULTS: [Fault<WriteRetry>; 7] = [
 ];
 
 fn fault_sets(tally: &mut Tally, random: &mut Random) {
-    for set in every_set(FAULTS.len()) {
-        for _ in 0..40 {
-            let token = random.between(1..=70);
-            let mut call = WriteRetry::valid(random, token);
-            let known = put_in(&FAULTS, &set, &mut call, random);
-            tally.compare_knowing(&call, known);
-        }
-    }
+    let faultless = |random: &mut Random| {
+        let token = random.between(1..=70);
+        WriteRetry::valid(random, token)
+    };
+    each_set(&FAULTS, every_set(FAULTS.len(), 40), random, faultless, |call, known, _| {
+        tally.compare_knowing(call, known);
+    });
 }
 
 /// Arguments that are right for the most part, each with a chance to be anything.

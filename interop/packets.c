@@ -1,0 +1,128 @@
+#include "packets.h"
+
+#include <stdio.h>
+#include <stdlib.h>
+#include <string.h>
+
+#define FRAME_CRYPTO 0x06
+#define CLIENT_HELLO 0x01
+
+struct bytes bytes_of(const void *at, size_t length)
+{
+    struct bytes made;
+    made.length = 0;
+    append(&made, at, length);
+    return made;
+}
+
+struct bytes pattern(uint8_t first, size_t length)
+{
+    struct bytes made;
+    size_t i;
+    made.length = length;
+    for (i = 0; i < length; i++)
+        made.at[i] = (uint8_t)(first + i);
+    return made;
+}
+
+int same(const void *one, size_t one_length, const void *other, size_t other_length)
+{
+    return one_length == other_length && (one_length == 0 || memcmp(one, other, one_length) == 0);
+}
+
+int same_bytes(const struct bytes *one, const struct bytes *other)
+{
+    return same(one->at, one->length, other->at, other->length);
+}
+
+void append(struct bytes *whole, const void *at, size_t length)
+{
+    if (length > LARGEST_DATAGRAM - whole->length) {
+        fprintf(stderr, "more than %d bytes\n", LARGEST_DATAGRAM);
+        exit(2);
+    }
+    memcpy(whole->at + whole->length, at, length);
+    whole->length += length;
+}
+
+struct bytes damaged(const struct bytes *datagram, size_t place)
+{
+    struct bytes copy = *datagram;
+    copy.at[place] ^= (uint8_t)(1u << place % 8);
+    return copy;
+}
+
+const uint8_t *payload_of(const struct opened *opened)
+{
+    return opened->plain + opened->header_length;
+}
+
+/* RFC 9000 section 19.6: type, offset, length, data; a ClientHello is longer than a one-byte length could say. */
+int starts_with_client_hello(const struct opened *opened)
+{
+    const uint8_t *payload = payload_of(opened);
+    return opened->payload_length > 5 && payload[0] == FRAME_CRYPTO && payload[1] == 0 && payload[2] >> 6 == 1 &&
+           payload[4] == CLIENT_HELLO;
+}
+
+int payload_holds(const struct opened *opened, const char *text)
+{
+    size_t size = strlen(text);
+    uint64_t i;
+    for (i = 0; i + size <= opened->payload_length; i++)
+        if (memcmp(payload_of(opened) + i, text, size) == 0)
+            return 1;
+    return 0;
+}
+
+uint32_t open_packet(const uint8_t keys[KEY_RECORD], uint64_t *expected, const struct bytes *datagram,
+                     struct opened *opened)
+{
+    uint64_t report[5] = {0};
+    uint32_t answer =
+        dw_open(keys, expected, datagram->at, datagram->length, opened->plain, sizeof opened->plain, report);
+    opened->number = report[0];
+    opened->number_length = report[1];
+    opened->header_length = report[2];
+    opened->payload_length = report[3];
+    opened->used = report[4];
+    return answer;
+}
+
+/* Nothing counts as acknowledged: the numbers here are small, so that every length from 1 to 4 covers them. */
+uint32_t seal_packet(const uint8_t keys[KEY_RECORD], const struct initial *header, const struct bytes *payload,
+                     struct bytes *datagram)
+{
+    uint64_t length = 0;
+    uint32_t answer = dw_seal(keys, header->number, 0, 0, header->number_length, header->destination.at,
+                              header->destination.length, header->source.at, header->source.length, header->token.at,
+                              header->token.length, payload->at, payload->length, datagram->at, sizeof datagram->at,
+                              &length);
+    datagram->length = (size_t)length;
+    return answer;
+}
+
+uint32_t read_initial(const struct bytes *datagram, uint32_t *version, struct initial *header)
+{
+    uint64_t report[9] = {0};
+    uint32_t answer = dw_read_header(datagram->at, datagram->length, report);
+    *version = (uint32_t)report[0];
+    header->destination = bytes_of(datagram->at + report[1], (size_t)report[2]);
+    header->source = bytes_of(datagram->at + report[3], (size_t)report[4]);
+    header->token = bytes_of(datagram->at + report[5], (size_t)report[6]);
+    header->number = 0;
+    header->number_length = 0;
+    return answer;
+}
+
+uint32_t make_retry(uint32_t version, const struct bytes *original, const struct initial *header, uint64_t low_bits,
+                    struct bytes *datagram)
+{
+    uint64_t length = 0;
+    uint32_t answer = dw_write_retry(version, original->at, original->length, header->destination.at,
+                                     header->destination.length, header->source.at, header->source.length,
+                                     header->token.at, header->token.length, low_bits, datagram->at,
+                                     sizeof datagram->at, &length);
+    datagram->length = (size_t)length;
+    return answer;
+}

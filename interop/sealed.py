@@ -1,0 +1,248 @@
+"""Packets for the library to seal, and what tshark must find in them."""
+
+import dataclasses
+import subprocess
+import typing
+
+import capture
+import frames
+
+VERSION_1 = 0x00000001
+VERSION_2_DRAFT = 0x709A50C4
+NAMES = {VERSION_1: "version 1", VERSION_2_DRAFT: "version 2 draft"}
+INITIAL = {VERSION_1: 0, VERSION_2_DRAFT: 1}
+RETRY = {VERSION_1: 3, VERSION_2_DRAFT: 0}
+TAG = 16
+# a client's datagram with an Initial must not be smaller (RFC 9000 section 14.1)
+DATAGRAM = 1200
+# the name that the client of exchange.c asks for
+SERVER_NAME = "driftwicket.example"
+
+
+def pattern(first, length):
+    """Bytes that count on from `first`."""
+    return bytes((first + place) % 256 for place in range(length))
+
+
+def hexed(*parts):
+    return " ".join(part.hex() or "-" for part in parts)
+
+
+def type_field(version):
+    return "quic.long.packet_type" if version == VERSION_1 else "quic.long.packet_type_v2"
+
+
+def differences(expected, found):
+    return [f"{name} is {found(name)}, not {value}" for name, value in expected.items() if found(name) != value]
+
+
+def flipped(packet, place):
+    """A copy with the lowest bit of one byte turned over."""
+    copy = bytearray(packet)
+    copy[place] ^= 1
+    return bytes(copy)
+
+
+@dataclasses.dataclass
+class Initial:
+    """An Initial; a frame is its bytes and the fields that tshark shows of it."""
+
+    version: int
+    keys_id: bytes
+    sender: str
+    number: int
+    acknowledged: typing.Optional[int]
+    length: int
+    destination: bytes
+    source: bytes
+    token: bytes
+    frames: list
+
+    def but(self, **changes):
+        return dataclasses.replace(self, **changes)
+
+    def version_name(self):
+        return NAMES[self.version]
+
+    def words(self):
+        token = f", token of {len(self.token)}" if self.token else ""
+        return f"{self.sender} Initial, number {self.number} in {self.length} bytes{token}"
+
+    def payload(self):
+        return b"".join(data for data, _ in self.frames)
+
+    def number_at(self):
+        token = frames.integer(len(self.token)) + self.token
+        return 7 + len(self.destination) + len(self.source) + len(token) + 2
+
+    def size(self):
+        return self.number_at() + self.length + len(self.payload()) + TAG
+
+    def padded(self):
+        """With PADDING behind the frames, as a client's Initial is."""
+        return self.but(frames=[*self.frames, frames.padding(DATAGRAM - self.size())])
+
+    def following(self):
+        """A later Initial of the same client, before it has heard of the server."""
+        return self.but(number=1, frames=[frames.ping()]).padded()
+
+    def after(self, retry):
+        """The Initial that answers a Retry: the same frames, under its ID and with its token."""
+        made = self.but(keys_id=retry.source, destination=retry.source, token=retry.token, number=1)
+        return made.but(frames=self.frames[:-1]).padded()
+
+    def with_other_keys(self):
+        return {
+            "sealed with the server's keys": self.but(sender="server"),
+            "sealed with keys from another ID": self.but(keys_id=pattern(0x77, 8)),
+        }
+
+    def request(self):
+        acknowledged = "none" if self.acknowledged is None else self.acknowledged
+        keys = f"{self.version} {hexed(self.keys_id)} {self.sender}"
+        parts = hexed(self.destination, self.source, self.token, self.payload())
+        return f"initial {keys} {self.number} {acknowledged} {self.length} {parts}"
+
+    def fields(self):
+        """tshark's fields of the header, the number and the frames."""
+        fields = {
+            "quic.version": [f"0x{self.version:08x}"],
+            type_field(self.version): [str(INITIAL[self.version])],
+            "quic.dcil": [str(len(self.destination))],
+            "quic.scil": [str(len(self.source))],
+            "quic.token_length": [str(len(self.token))],
+            "quic.length": [str(self.size() - self.number_at())],
+            "quic.packet_length": [str(self.size())],
+            "quic.long.reserved": ["0"],
+            "quic.packet_number_length": [str(self.length - 1)],
+            "quic.packet_number": [str(self.number)],
+        }
+        for _, frame in self.frames:
+            for name, values in frame.items():
+                fields[name] = fields.get(name, []) + values
+        return fields
+
+    def faults(self, found):
+        parts = {"quic.dcid": self.destination, "quic.scid": self.source, "quic.token": self.token}
+        faults = differences(self.fields(), found.shown) + differences(parts, found.bytes_of)
+        if found.decrypted != [self.payload()]:
+            faults.append("the decrypted payload is another")
+        return faults
+
+
+@dataclasses.dataclass
+class Retry:
+    """A Retry to the client that wrote `destination` as its ID, after its first Initial to `original`."""
+
+    version: int
+    original: bytes
+    destination: bytes
+    low_bits: int
+    source: bytes = pattern(0xE0, 18)
+    token: bytes = pattern(0x40, 33)
+
+    def request(self):
+        parts = hexed(self.original, self.destination, self.source, self.token)
+        return f"retry {self.version} {parts} {self.low_bits}"
+
+    def faults(self, found):
+        parts = {"quic.dcid": self.destination, "quic.scid": self.source, "quic.retry_token": self.token}
+        return verified_faults(self.version, found) + differences(parts, found.bytes_of)
+
+
+@dataclasses.dataclass
+class Relayed:
+    """A line of exchange.c's record: a datagram, and what the library opened in it."""
+
+    sender: str
+    kind: str
+    datagram: bytes
+    payload: bytes
+    number: str
+    length: str
+
+    def words(self):
+        return "Retry" if self.kind == "retry" else f"{self.sender}'s Initial {self.number}"
+
+    def faults(self, version, found):
+        if self.kind == "retry":
+            return verified_faults(version, found)
+        expected = {
+            "quic.packet_number": [self.number],
+            "quic.packet_number_length": [str(int(self.length) - 1)],
+        }
+        faults = differences(expected, found.shown)
+        if found.decrypted[:1] != [self.payload]:
+            faults.append("the decrypted payload is another")
+        return faults
+
+
+def read_record(path):
+    """The record's lines by their flows."""
+    flows = {}
+    for line in path.read_text().splitlines():
+        flow, sender, kind, datagram, payload, number, length = line.split()
+        payload = b"" if payload == "-" else bytes.fromhex(payload)
+        flows.setdefault(flow, []).append(Relayed(sender, kind, bytes.fromhex(datagram), payload, number, length))
+    return flows
+
+
+def verified_faults(version, found):
+    expected = {
+        "quic.version": [f"0x{version:08x}"],
+        type_field(version): [str(RETRY[version])],
+        "quic.bad_retry": [],
+    }
+    faults = differences(expected, found.shown)
+    words = found.words("quic.retry_integrity_tag")
+    return faults + [f"the tag is not verified: {words}"] * (len(words) != 1 or not words[0].endswith("[verified]"))
+
+
+def unverified_faults(found):
+    """tshark must object to the Retry's tag."""
+    verified = any("[verified]" in words for words in found.words("quic.retry_integrity_tag"))
+    return ["its tag is verified"] * verified + ["tshark does not object"] * (not found.words("quic.bad_retry"))
+
+
+def undecrypted_faults(found):
+    """tshark must say that it failed to decrypt, and show no frame."""
+    decrypted = bool(found.decrypted or found.shown("quic.frame_type"))
+    return ["it is decrypted"] * decrypted + ["tshark does not object"] * (not found.words("quic.decryption_failed"))
+
+
+def damaged_copies(initial, packet):
+    at = initial.number_at()
+    return {
+        "with a bit of its source ID turned over": flipped(packet, 6 + len(initial.destination) + 1),
+        "with a bit of its token turned over": flipped(packet, at - 3),
+        "with a bit of its number turned over": flipped(packet, at + initial.length - 1),
+        "with a bit of its payload turned over": flipped(packet, at + DATAGRAM // 2),
+        "with a bit of its tag turned over": flipped(packet, -1),
+    }
+
+
+def conversation(version, length, token, hellos):
+    """Two Initials of each side, numbers in `length` bytes: 0, then the farthest from it that so many bytes can tell."""
+    original = pattern(0x10 * length, 8 + 4 * (length - 1))
+    client, server = pattern(0xA0, 5 * length), pattern(0xB0, 20 - 5 * (length - 1))
+    far = 2 ** (8 * length - 1) - 1
+    base = Initial(version, original, "client", 0, None, length, original, client, token, [])
+    answer = base.but(sender="server", destination=client, source=server, token=b"")
+    hello = [frames.ping(), frames.crypto(hellos["client"])]
+    return [
+        base.but(frames=hello).padded(),
+        answer.but(frames=[frames.acknowledgement(0), frames.crypto(hellos["server"])]),
+        base.but(number=far, acknowledged=0, destination=server, frames=[frames.acknowledgement(0)]).padded(),
+        answer.but(number=far, acknowledged=0, frames=[frames.acknowledgement(far), frames.ping(), frames.padding(4)]),
+    ]
+
+
+def packets(program, wanted):
+    """The library's packets for Initials and Retry packets."""
+    lines = "".join(f"{one.request()}\n" for one in wanted)
+    run = subprocess.run([program], input=lines, stdout=subprocess.PIPE, text=True, check=False)
+    answers = run.stdout.splitlines()
+    refused = [answer for answer in answers if answer.startswith("refused")]
+    if run.returncode != 0 or len(answers) != len(wanted) or refused:
+        raise capture.Broken(f"the library does not seal what it is asked for: {run.returncode}, {refused}")
+    return [bytes.fromhex(answer) for answer in answers]

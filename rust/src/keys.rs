@@ -1,0 +1,99 @@
+//! Key records: RFC 9001 section 5.2.
+
+use crate::{ffi, Refusal, Version};
+use std::fmt::{self, Debug, Formatter};
+
+/// The end of the connection that seals with some keys.
+#[derive(Clone, Copy, Debug, PartialEq, Eq, Hash)]
+pub enum Side {
+    /// The end that opened the connection.
+    Client,
+    /// The end that answers.
+    Server,
+}
+
+/// One sender's keys, with the version that they are for. What one side seals, the other opens with the same record.
+///
+/// They hold secrets: `Debug` tells the version alone.
+///
+/// ```
+/// use driftwicket::{Keys, Side, Version};
+///
+/// let keys = Keys::initial(Version::ONE, b"an ID", Side::Client)?;
+/// assert_eq!(format!("{keys:?}"), "Keys { version: Version(0x00000001), .. }");
+/// # Ok::<(), driftwicket::Refusal>(())
+/// ```
+#[derive(Clone)]
+pub struct Keys([u8; Keys::LENGTH]);
+
+impl Keys {
+    /// How many bytes a record has.
+    pub const LENGTH: usize = 48;
+
+    /// Makes a sender's Initial keys from the Destination Connection ID of the client's Initial: its first, or after a
+    /// Retry the one that the Retry set. Refuses 4 and 5, in this order.
+    ///
+    /// ```
+    /// use driftwicket::{Keys, Refusal, Side, Version};
+    ///
+    /// // RFC 9001 appendix A.1
+    /// let id = 0x8394c8f03e515708_u64.to_be_bytes();
+    /// let keys = Keys::initial(Version::ONE, &id, Side::Client)?;
+    /// let key = 0x1f369613dd76d5467730efcbe3b1a22d_u128.to_be_bytes();
+    /// assert_eq!(keys.as_bytes()[4..20], key);
+    ///
+    /// let too_long = [0; 21];
+    /// assert_eq!(Keys::initial(Version::ONE, &too_long, Side::Client).unwrap_err(), Refusal::LongId);
+    /// # Ok::<(), Refusal>(())
+    /// ```
+    pub fn initial(version: Version, destination: &[u8], side: Side) -> Result<Keys, Refusal> {
+        ffi::initial_keys(version.0, destination, side == Side::Server).map(Keys)
+    }
+
+    /// Takes a record from its bytes: the version (4, the most significant byte first), key (16), iv (12) and hp (16).
+    /// Any bytes are a record; one of an unknown version is refused where it is used.
+    ///
+    /// ```
+    /// use driftwicket::{open, Keys, Refusal};
+    ///
+    /// let blank = Keys::from_bytes([0; Keys::LENGTH]);
+    /// assert_eq!(open(&blank, &mut 0, &[], &mut []).unwrap_err(), Refusal::Version);
+    /// ```
+    pub fn from_bytes(bytes: [u8; Keys::LENGTH]) -> Keys {
+        Keys(bytes)
+    }
+
+    /// The record's bytes, as [`Keys::from_bytes`] takes them. They are secrets.
+    ///
+    /// ```
+    /// use driftwicket::{Keys, Side, Version};
+    ///
+    /// let keys = Keys::initial(Version::DRAFT_2, b"an ID", Side::Server)?;
+    /// let kept = *keys.as_bytes();
+    /// assert_eq!(Keys::from_bytes(kept).as_bytes(), keys.as_bytes());
+    /// # Ok::<(), driftwicket::Refusal>(())
+    /// ```
+    pub fn as_bytes(&self) -> &[u8; Keys::LENGTH] {
+        &self.0
+    }
+
+    /// The version that these keys are for.
+    ///
+    /// ```
+    /// use driftwicket::{Keys, Side, Version};
+    ///
+    /// let keys = Keys::initial(Version::DRAFT_2, b"an ID", Side::Client)?;
+    /// assert_eq!(keys.version(), Version::DRAFT_2);
+    /// # Ok::<(), driftwicket::Refusal>(())
+    /// ```
+    pub fn version(&self) -> Version {
+        let [first, second, third, fourth, ..] = self.0;
+        Version(u32::from_be_bytes([first, second, third, fourth]))
+    }
+}
+
+impl Debug for Keys {
+    fn fmt(&self, formatter: &mut Formatter) -> fmt::Result {
+        formatter.debug_struct("Keys").field("version", &self.version()).finish_non_exhaustive()
+    }
+}
