@@ -55,6 +55,15 @@ test: layout lib second rust
 	@echo "Proving every crate from nothing, trying every edit, running every program ..."
 	@rt ci
 
+# The library's speed beside OpenSSL's: docs/BENCH.md. No part of the gate. What is missing is said before the library is
+# proved.
+.PHONY: bench bench-needs
+bench: bench-needs lib
+	@tools/bench
+
+bench-needs:
+	@tools/bench --needs
+
 # The library against programs that share nothing with it, ngtcp2 and tshark: interop/README.md. What is missing is said
 # before the library is proved.
 .PHONY: interop interop-needs

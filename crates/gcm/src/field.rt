@@ -23,7 +23,7 @@ pub fn add(a: Block, b: Block) -> Block
 }
 
 // V after one step.
-fn shifted(v: Block) -> Block
+pub fn shifted(v: Block) -> Block
     ensures { λ r. ⌜ num r ≡ next (num v) ⌝ }
 {
     Block {

@@ -19,7 +19,7 @@ pub fn hash_key(schedule: &[u8; 176]) -> Block
 }
 
 // The bytes of a block.
-fn spelled(block: Block) -> [u8; 16]
+pub fn spelled(block: Block) -> [u8; 16]
     ensures { λ r. ⌜ r ≡ bytes 16 (num block) ⌝ }
 {
     let mut out = [0u8; 16];

@@ -1,0 +1,3 @@
+pub mod ByBits
+pub mod Blocks
+pub mod Sealing

@@ -1,0 +1,106 @@
+-- The blocks that are left, enciphered behind what is done, give what all of them gave at the start.
+use Prim.Native.Nat.{_-_, _/_, _≤_}
+use mathlib.Core.Path.{_≡_, refl, sym, ap, _∙_}
+use native.Mathlib.Omega.{arith}
+use borrow.Author.Needs.{needs}
+use lib.ListN.{length, length-drop}
+use Rattle.octets.specs.Octets.{laid}
+use Rattle.measured.specs.Measured.{enciphered}
+use Rattle.measured.proofs.Blocks.{onward, blocks-start, block-read, blocks-turn, blocks-end}
+use Rattle.measured.proofs.dw_measure_blocks.Statement.{statement}
+use Rattle.measured.proofs.dw_measure_blocks.Tie as tie
+
+abbrev Inv-loop : tie.InvT-loop
+Inv-loop schedule buffer₀ table at₀ buffer at =
+    (at ≤ length buffer) × (length buffer ≡ length buffer₀) × (onward schedule buffer at ≡ enciphered schedule (length buffer₀ / 16) buffer₀)
+
+abbrev μ-loop : tie.MeasureT-loop
+μ-loop schedule buffer₀ table at₀ buffer at = length buffer - at
+
+table-requires : tie.Need-table-requires Inv-loop μ-loop
+table-requires c κs = search needs
+
+loop-holds : tie.Need-loop-holds Inv-loop μ-loop
+loop-holds c =
+    let a = c .before .before .args in
+    (search needs, refl, blocks-start (a .schedule .now) (a .buffer .now))
+
+sub-loop : tie.Need-sub-loop Inv-loop μ-loop
+sub-loop c = search needs
+
+slice-aggregate-copy : tie.Need-slice-aggregate-copy Inv-loop μ-loop
+slice-aggregate-copy c = search needs
+
+add-copy : tie.Need-add-copy Inv-loop μ-loop
+add-copy c = search needs
+
+sub-copy : tie.Need-sub-copy Inv-loop μ-loop
+sub-copy c = search needs
+
+part-copy-start : tie.Need-part-copy-start Inv-loop μ-loop
+part-copy-start c = search needs
+
+part-copy-end : tie.Need-part-copy-end Inv-loop μ-loop
+part-copy-end c = search needs
+
+copy-requires : tie.Need-copy-requires Inv-loop μ-loop
+copy-requires c κs =
+    let l = c .before .before .before .before .loop in
+    omega (arith, length-drop (l .at) (l .buffer))
+
+encrypt-with-requires : tie.Need-encrypt-with-requires Inv-loop μ-loop
+encrypt-with-requires c κs = search needs
+
+slice-aggregate-copy-2 : tie.Need-slice-aggregate-copy-2 Inv-loop μ-loop
+slice-aggregate-copy-2 c = search needs
+
+copy-requires-2 : tie.Need-copy-requires-2 Inv-loop μ-loop
+copy-requires-2 c κs = search needs
+
+add-at : tie.Need-add-at Inv-loop μ-loop
+add-at c = search needs
+
+loop-less : tie.Need-loop-less Inv-loop μ-loop
+loop-less c = search needs
+
+loop-again : tie.Need-loop-again Inv-loop μ-loop
+loop-again c =
+    let read = c .before .before .before .before .before .before .before .before .before in
+    let l = read .before .before .before .before .before .loop in
+    let a = read .before .before .before .before .before .before .before .before .args in
+    let w = a .schedule .now in
+    let block = block-read (l .buffer) _ (l .at) (omega arith) (read .copy .ensures) in
+    let written = c .before .before .copy2 .ensures ∙ ap (laid (l .buffer) (l .at)) (c .before .before .before .before .before .encrypt-with .ensures) in
+    (search needs, search needs, blocks-turn w (l .buffer) _ _ (l .at) (omega arith) block written ∙ l .inv .2)
+
+same-length : tie.Need-same-length Inv-loop μ-loop
+same-length c = c .before .loop .inv .1
+
+returns : tie.Need-returns Inv-loop μ-loop
+returns c =
+    let l = c .before .loop in
+    sym (blocks-end _ (l .buffer) (l .at) (omega arith)) ∙ l .inv .2
+
+pub dw-measure-blocks-spec : {M : Type 1} → statement M
+dw-measure-blocks-spec =
+    tie.close
+    (tie.spec
+    Inv-loop
+    μ-loop
+    table-requires
+    loop-holds
+    sub-loop
+    slice-aggregate-copy
+    add-copy
+    sub-copy
+    part-copy-start
+    part-copy-end
+    copy-requires
+    encrypt-with-requires
+    slice-aggregate-copy-2
+    copy-requires-2
+    add-at
+    loop-less
+    loop-again
+    same-length
+    returns)
