@@ -6,11 +6,11 @@ use native.Mathlib.Omega.{arith}
 use lib.ListN.{length, take, drop, length-append, take-append-drop, length-drop, replicate}
 use lib.Seq.{take-take, take-add, take-at, drop-at, drop-drop, length-take-le}
 use Rattle.octets.specs.Octets.{Bytes, number, laid}
-use Rattle.octets.proofs.Buffers.{laid-length}
+use Rattle.octets.proofs.Buffers.{laid-length, laid-rest}
 use Rattle.aes128.specs.Cipher.{encrypted}
 use Rattle.aes128.proofs.Laws.{encrypted-length}
 use Rattle.gcm.specs.Hash.{State, blocks, chained, ghash, start, absorbed}
-use Rattle.gcm.proofs.Lists.{take-bytes, laid-rest}
+use Rattle.octets.proofs.Bytes.{take-bytes}
 use Rattle.gcm.proofs.Stream.{whole}
 use Rattle.measured.specs.Measured.{enciphered}
 
