@@ -1,9 +1,8 @@
--- The index stays within the bytes.
 use Prim.Native.Nat.{_-_, _≤_}
-use borrow.Author.Needs.{needs}
 use lib.ListN.{length}
-use Rattle.terminal.proofs.say_hex.Statement.{statement}
-use Rattle.terminal.proofs.say_hex.Tie as tie
+use borrow.Author.Needs.{needs}
+use Rattle.terminal.proofs.print.say_hex.Statement.{statement}
+use Rattle.terminal.proofs.print.say_hex.Tie as tie
 
 abbrev Inv-loop : tie.InvT-loop
 Inv-loop bytes i₀ i = i ≤ length bytes

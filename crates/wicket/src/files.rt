@@ -1,0 +1,39 @@
+// Files that a call names.
+use libc::STDIN_FILENO;
+use terminal::words::same;
+
+// A descriptor of the file to be read, - being standard input; below 0 where it cannot be opened, which is said.
+pub fn open(path: &[u8]) -> i32 {
+    if same(path, b"-") {
+        return STDIN_FILENO;
+    }
+    let file = os::open_read(path);
+    if file < 0 {
+        terminal::say(b"cannot open ");
+        terminal::say(path);
+        terminal::say(b"\n");
+    }
+    file
+}
+
+// A line that is too long is passed over.
+pub fn too_long(line: u64) {
+    terminal::say(b"line ");
+    terminal::say_number(line);
+    terminal::say(b" is too long\n");
+}
+
+// A line cannot be read.
+pub fn unread(line: u64) {
+    terminal::say(b"line ");
+    terminal::say_number(line);
+    terminal::say(b" cannot be read\n");
+}
+
+// The number behind one that counts lines or datagrams.
+pub fn next(number: u64) -> u64 {
+    if number == u64::MAX {
+        return number;
+    }
+    number + 1
+}
