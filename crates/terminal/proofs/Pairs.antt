@@ -1,9 +1,13 @@
 -- The bytes that pairs of hex digits spell: how many there are, and each of them.
-use Prim.Native.Nat.{ℕ, zero, suc, _+_, _*_, _/_, _<_, _≤_, min}
-use mathlib.Core.Path.{_≡_, refl, ap₂, _∙_}
-use mathlib.Core.List.{List, [], _∷_}
+use Prim.Native.Nat.{ℕ, zero, suc, _+_, _*_, _/_, _<_}
+use mathlib.Core.List.{List, [], _∷_, _++_}
+use mathlib.Core.Path.{_≡_, refl, ap, ap₂, _∙_}
+use native.Mathlib.Nat.{zero-add}
 use native.Mathlib.Omega.{arith}
-use lib.ListN.{length, getD}
+use lib.ListN.{length, getD, drop}
+use lib.Seq.{paste}
+use Rattle.octets.proofs.Buffers.{lay-end}
+use Rattle.octets.specs.Octets.{begun}
 use Rattle.terminal.specs.Digits.{pair, pairs}
 
 -- two characters a byte
@@ -23,3 +27,7 @@ pairs-at (a ∷ b ∷ t) (suc i) h =
     let e : suc (suc (2 * i)) ≡ 2 * suc i = omega arith in
     let f : suc (suc (2 * i + 1)) ≡ 2 * suc i + 1 = omega arith in
     pairs-at t i (omega arith) ∙ ap₂ (λ (x y : ℕ). pair (getD (a ∷ b ∷ t) x 0) (getD (a ∷ b ∷ t) y 0)) e f
+
+-- a loop that laid all of s over a buffer's start has begun the buffer with it
+pub lay-begun : (d d₀ s : List ℕ) (i : ℕ) → i ≡ length s → d ≡ paste d₀ 0 s i → d ≡ begun s d₀
+lay-begun d d₀ s i all is = is ∙ ap (paste d₀ 0 s) all ∙ lay-end d₀ 0 s ∙ ap (λ (k : ℕ). s ++ drop k d₀) (zero-add (length s))

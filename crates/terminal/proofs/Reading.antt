@@ -1,8 +1,8 @@
 -- The number that digits spell, read one digit a turn.
-use Prim.Native.Nat.{ℕ, suc, _+_, _-_, _*_, _/_, _^_, _<_, _≤_}
-use mathlib.Core.Path.{_≡_, refl, sym, ap, _∙_}
+use Prim.Native.Nat.{ℕ, _+_, _-_, _*_, _/_, _^_, _<_, _≤_}
 use mathlib.Core.List.{List, [], _∷_}
-use native.Mathlib.Nat.{le-div-iff-mul-le, div-lt-iff-lt-mul, le-trans, mul-le-mul-left}
+use mathlib.Core.Path.{_≡_, ap}
+use native.Mathlib.Nat.{le-div-iff-mul-le, div-lt-iff-lt-mul, mul-le-mul-left}
 use native.Mathlib.Numerals.{add-one}
 use native.Mathlib.Omega.{arith}
 use borrow.Author.Tests.{lt-ltb, le-ltb, le-leb, lt-leb}
@@ -10,7 +10,6 @@ use lib.ListN.{length, getD, drop, drop-of-length-le}
 use lib.Seq.{drop-cons}
 use Rattle.terminal.specs.Digits.{valueOf, run}
 use Rattle.terminal.specs.Numbers.{readOn, spelled, fitting, numberIn}
-use Rattle.terminal.specs.declared.digits.Number.{Number}
 use Rattle.terminal.specs.declared.digits.Number.the-variants.{Value, NoNumber, TooLarge}
 
 -- more digits make no smaller number

@@ -1,8 +1,8 @@
 -- Digits as characters: their values, and the bytes that pairs of hex digits spell.
-use Prim.Native.Nat.{ℕ, zero, suc, _+_, _-_, _*_, _/_, _%_, min}
+use Prim.Native.Nat.{ℕ, suc, _+_, _-_, _*_, _/_, _%_, min}
 use mathlib.Core.Path.{_≡_}
-use mathlib.Core.Bool.{Bool, cond, _&&_}
-use mathlib.Core.List.{List, [], _∷_, foldl}
+use mathlib.Core.Bool.{cond, _&&_}
+use mathlib.Core.List.{List, [], _∷_}
 use lib.Dec.{leb, ltb}
 use lib.ListN.{length, take}
 use Rattle.octets.specs.Octets.{begun}
@@ -33,3 +33,17 @@ pairs (a ∷ b ∷ t) = pair a b ∷ pairs t
 pub record Decoded (text before after : List ℕ) (count : ℕ) : Type 0 where
   pub counted : count ≡ min (length (pairs text)) (length before)
   pub holds : after ≡ begun (take count (pairs text)) before
+
+-- the hex digit of a number below 16, in lower case
+unfoldable pub digitOf : ℕ → ℕ
+digitOf v = cond (ltb v 10) (48 + v) (87 + v)
+
+-- two hex digits for each byte
+unfoldable pub hex : List ℕ → List ℕ
+hex [] = []
+hex (b ∷ s) = digitOf (b / 16) ∷ digitOf (b % 16) ∷ hex s
+
+-- what encoding leaves in a buffer, and answers
+pub record Encoded (s before after : List ℕ) (count : ℕ) : Type 0 where
+  pub counted : count ≡ 2 * min (length s) (length before / 2)
+  pub holds : after ≡ begun (take count (hex s)) before

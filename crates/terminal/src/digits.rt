@@ -3,7 +3,7 @@ ghost use mathlib.Core.Path.{_≡_};
 ghost use Prim.Native.Nat.{_≤_, _<_, min};
 ghost use lib.ListN.{length};
 ghost use Rattle.io.specs.Counts.{Counts};
-ghost use Rattle.terminal.specs.Digits.{valueOf, run, Decoded};
+ghost use Rattle.terminal.specs.Digits.{valueOf, digitOf, run, Decoded, Encoded};
 ghost use Rattle.terminal.specs.Numbers.{fitting, numberIn};
 
 // What a text is as a number: its value; none, where it is empty or has a character that is no digit; or one of more than 64 bits.
@@ -72,6 +72,32 @@ pub fn decode(text: &[u8], buffer: &mut [u8]) -> usize
         i += 1;
     }
     count
+}
+
+// The hex digit of a number below 16, in lower case.
+fn digit(value: u8) -> u8
+    requires { ⌜ value < 16 ⌝ }
+    ensures { λ r. ⌜ r ≡ digitOf value ⌝ }
+{
+    if value < 10 {
+        return b'0' + value;
+    }
+    b'a' - 10 + value
+}
+
+// Two hex digits for each byte, put at the buffer's start as far as there is room; how many characters there are.
+pub fn encode(bytes: &[u8], buffer: &mut [u8]) -> usize
+    ensures { λ r. ⌜ Counts r (now (buffer .exit)) ⌝ }
+    ensures { λ r. ⌜ Encoded (now (bytes .entry)) (now (buffer .entry)) (now (buffer .exit)) r ⌝ }
+{
+    let count = least(bytes.len(), buffer.len() / 2);
+    let mut i: usize = 0;
+    while i < count {
+        buffer[2 * i] = digit(bytes[i] / 16);
+        buffer[2 * i + 1] = digit(bytes[i] % 16);
+        i += 1;
+    }
+    2 * count
 }
 
 // The number that a text of digits spells in the base, where it fits 64 bits.

@@ -1,33 +1,37 @@
 // What is printed: text, bytes in hex, numbers in decimal and hex.
+use crate::digits::encode;
 use libc::STDOUT_FILENO;
 ghost use mathlib.Core.Path.{_≡_};
-ghost use Prim.Native.Nat.{_-_};
+ghost use Prim.Native.Nat.{_-_, _<_, _≤_};
+
+// How many characters of hex are written at once.
+const ROW: usize = 128;
 
 // The text, as it is.
 pub fn say(text: &[u8]) {
     io::write_all(STDOUT_FILENO, text);
 }
 
-// The hex digit of a number below 16, in lower case.
-fn digit(value: u8) -> u8 {
-    if value < 10 {
-        return b'0' + value;
+// Where the next run of bytes ends, of at most half as many as a row of text has characters.
+fn row_end(at: usize, all: usize) -> usize
+    requires { ⌜ at < all ⌝ }
+    ensures { λ r. ⌜ (at < r) × (r ≤ all) ⌝ }
+{
+    if all - at < ROW / 2 {
+        return all;
     }
-    b'a' + (value - 10) % 6
-}
-
-// The two hex digits of a byte.
-fn say_byte(byte: u8) {
-    let pair = [digit(byte / 16), digit(byte % 16)];
-    say(&pair);
+    at + ROW / 2
 }
 
 // Two hex digits for each byte.
 pub fn say_hex(bytes: &[u8]) {
-    let mut i: usize = 0;
-    while i < bytes.len() {
-        say_byte(bytes[i]);
-        i += 1;
+    let mut row = [0u8; ROW];
+    let mut at: usize = 0;
+    while at < bytes.len() {
+        let end = row_end(at, bytes.len());
+        let count = encode(&bytes[at..end], &mut row);
+        say(&row[..count]);
+        at = end;
     }
 }
 

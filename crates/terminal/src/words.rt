@@ -1,7 +1,6 @@
 // Words of a text: the runs of characters between separators.
 ghost use mathlib.Core.Path.{_≡_};
 ghost use Prim.Native.Nat.{_≤_};
-ghost use mathlib.Core.Bool.{Bool, true};
 ghost use lib.ListN.{length};
 ghost use Rattle.octets.specs.Octets as Octets;
 

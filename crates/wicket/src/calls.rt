@@ -1,6 +1,7 @@
 // A call, as a line of words: judged by the manual, and made.
 use crate::fields;
 use crate::fields::END;
+use crate::fields::wrong;
 use terminal::words::count;
 use terminal::words::next_separator;
 use terminal::words::same;
@@ -8,11 +9,6 @@ use terminal::words::word;
 ghost use mathlib.Core.Path.{_≡_};
 ghost use Prim.Native.Nat.{_-_, _≤_};
 ghost use lib.ListN.{length};
-
-// What is wrong with a call follows.
-pub fn wrong() {
-    terminal::say(b"wrong call: ");
-}
 
 // Where the manual's line on a command starts, or the end where there is none.
 fn line_on(manual: &[u8], command: &[u8]) -> usize
@@ -75,7 +71,7 @@ fn are_enough(line: &[u8], usage: &[u8]) -> bool {
     if given == wanted {
         return true;
     }
-    wrong();
+    wrong(b"call");
     terminal::say_number(given as u64);
     terminal::say(b" words behind the command, which takes ");
     terminal::say_number(wanted as u64);
@@ -96,13 +92,21 @@ fn are_right(line: &[u8], usage: &[u8]) -> bool {
     true
 }
 
+// A word that is no command; where there is none, nothing is wrong with it.
+fn unknown(command: &[u8]) {
+    if 0 < command.len() {
+        wrong(b"call");
+        terminal::say(command);
+        terminal::say(b" is no command\n");
+    }
+}
+
 // Whether a call is as the manual has it; where not, it is said what is wrong, and how it is made.
 pub fn is_well_made(line: &[u8], manual: &[u8]) -> bool {
     let command = word(line, 0, END);
     let usage = usage_of(manual, command);
     if usage.len() == 0 {
-        wrong();
-        terminal::say(b"no such command\n");
+        unknown(command);
         show(manual);
         return false;
     }
@@ -134,7 +138,7 @@ fn make(command: &[u8], line: &[u8]) {
     } else if same(command, b"receive") {
         crate::receiving::receive(line);
     } else {
-        wrong();
+        wrong(b"call");
         terminal::say(b"a script calls no script\n");
     }
 }

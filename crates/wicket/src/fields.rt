@@ -15,9 +15,9 @@ pub const END: u8 = 0;
 // The largest version.
 const VERSIONS: u64 = 0xffffffff;
 
-// A word of this name is wrong.
-fn wrong(name: &[u8]) {
-    terminal::say(b"wrong call: ");
+// What is wrong with something of a name follows.
+pub fn wrong(name: &[u8]) {
+    terminal::say(b"wrong ");
     terminal::say(name);
     terminal::say(b": ");
 }
@@ -40,7 +40,7 @@ pub fn is_hex(text: &[u8], name: &[u8]) -> bool {
     if text.len() % 2 != 0 {
         wrong(name);
         terminal::say_number(text.len() as u64);
-        terminal::say(b" hex digits, and a byte takes two\n");
+        terminal::say(b" hex digits, an odd count\n");
         return false;
     }
     true

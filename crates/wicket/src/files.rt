@@ -1,5 +1,6 @@
 // Files that a call names.
 use libc::STDIN_FILENO;
+use terminal::words::count;
 use terminal::words::same;
 
 // A descriptor of the file to be read, - being standard input; below 0 where it cannot be opened, which is said.
@@ -14,6 +15,17 @@ pub fn open(path: &[u8]) -> i32 {
         terminal::say(b"\n");
     }
     file
+}
+
+// Whether a line is a comment, or has no word.
+pub fn is_comment(text: &[u8]) -> bool {
+    if count(text, b' ') == 0 {
+        return true;
+    }
+    if text.len() == 0 {
+        return true;
+    }
+    text[0] == b'#'
 }
 
 // A line that is too long is passed over.

@@ -21,15 +21,5 @@ wicket check-retry ORIGINAL DATAGRAM
 wicket receive VERSION ID client|server EXPECTED FILE
 wicket script FILE
 ";
-    let mut line = [0u8; 16384];
-    let gathered = arguments::gather(&mut line);
-    let length = gathered.length;
-    if gathered.too_long != 0 {
-        calls::wrong();
-        terminal::say(b"no room for argument ");
-        terminal::say_number(gathered.too_long as u64);
-        terminal::say(b"\n");
-        return;
-    }
-    scripts::start(&line[..length], manual);
+    scripts::program(manual);
 }

@@ -27,7 +27,7 @@ struct Tally {
 fn opened(found: Opened, buffer: &[u8], length: usize) {
     let number = found.number;
     let payload = answers::within(buffer, found.header_length, found.payload_length);
-    terminal::say_right(number.0, 8);
+    terminal::say_right(number.0, 6);
     terminal::say_right(found.payload_length as u64, 9);
     terminal::say(b"  ");
     if payload.len() <= SHOWN {
@@ -51,7 +51,6 @@ fn arrive(keys: Keys, expected: &mut u64, text: &[u8], tally: Tally) -> Tally {
     let mut out = [0u8; 1500];
     match open::open(keys, expected, &datagram[..length], &mut out) {
         Opening::Refused(why) => {
-            terminal::say(b"  ");
             answers::refused(why);
             Tally {
                 opened: tally.opened,
@@ -68,14 +67,12 @@ fn arrive(keys: Keys, expected: &mut u64, text: &[u8], tally: Tally) -> Tally {
     }
 }
 
-// One line of the file: a datagram, a comment, which is shown, or nothing.
+// One line of the file: a datagram, or a comment or nothing, which is shown.
 fn take(keys: Keys, expected: &mut u64, text: &mut [u8], line: u64, tally: Tally) -> Tally {
-    if 0 < text.len() {
-        if text[0] == b'#' {
-            terminal::say(text);
-            terminal::say(b"\n");
-            return tally;
-        }
+    if files::is_comment(text) {
+        terminal::say(text);
+        terminal::say(b"\n");
+        return tally;
     }
     blanks_to_zeros(text);
     let words = count(text, END);
@@ -83,12 +80,14 @@ fn take(keys: Keys, expected: &mut u64, text: &mut [u8], line: u64, tally: Tally
         return tally;
     }
     terminal::say_right(line, 5);
+    terminal::say(b"  ");
     if words != 1 {
-        terminal::say(b"  more than one word\n");
+        fields::wrong(b"line");
+        terminal::say(b"more than one word\n");
         return tally;
     }
     let datagram = word(text, 0, END);
-    if !fields::is_hex(datagram, b"DATAGRAM") {
+    if !fields::is_hex(datagram, b"datagram") {
         return tally;
     }
     arrive(keys, expected, datagram, tally)
@@ -145,7 +144,7 @@ pub fn receive(line: &[u8]) {
     }
     let mut chunk = [0u8; 4096];
     let mut text = [0u8; 16384];
-    terminal::say(b" line  number  payload\n");
+    terminal::say(b" line  number  payload  its first bytes\n");
     receive_all(keys, fields::number(line, 4), file, &mut chunk, &mut text);
     libc::close(file);
 }

@@ -1,6 +1,8 @@
 // wicket script: the calls of a file, one after the other; and the program's own call.
+use crate::arguments::gather;
 use crate::calls;
 use crate::fields::END;
+use crate::fields::wrong;
 use crate::files;
 use terminal::lines::Ending;
 use terminal::lines::blanks_to_zeros;
@@ -11,11 +13,7 @@ use terminal::words::word;
 
 // One line of a script: a call, which is shown before its answer, or a comment or nothing, which is shown.
 fn take(text: &mut [u8], manual: &[u8]) {
-    if text.len() == 0 {
-        terminal::say(b"\n");
-        return;
-    }
-    if text[0] == b'#' {
+    if files::is_comment(text) {
         terminal::say(text);
         terminal::say(b"\n");
         return;
@@ -61,8 +59,8 @@ fn script(path: &[u8], manual: &[u8]) {
     libc::close(file);
 }
 
-// The program's own call: a script, or any other command.
-pub fn start(line: &[u8], manual: &[u8]) {
+// A call that is a script, or any other command.
+fn start(line: &[u8], manual: &[u8]) {
     if same(word(line, 0, END), b"script") {
         if calls::is_well_made(line, manual) {
             script(word(line, 1, END), manual);
@@ -70,4 +68,19 @@ pub fn start(line: &[u8], manual: &[u8]) {
         return;
     }
     calls::call(line, manual);
+}
+
+// The program's own call, by its arguments.
+pub fn program(manual: &[u8]) {
+    let mut line = [0u8; 16384];
+    let gathered = gather(&mut line);
+    let length = gathered.length;
+    if gathered.too_long != 0 {
+        wrong(b"call");
+        terminal::say(b"no room for argument ");
+        terminal::say_number(gathered.too_long as u64);
+        terminal::say(b"\n");
+        return;
+    }
+    start(&line[..length], manual);
 }

@@ -1,19 +1,13 @@
-use mathlib.Core.List.{_++_}
-use native.Mathlib.Nat.{zero-add}
-use lib.ListN.{getD, set, drop}
-use Rattle.terminal.proofs.Pairs.{pairs-length, pairs-at}
-use Rattle.octets.proofs.Buffers.{lay-start, lay-turn, lay-end}
-use lib.Seq.{length-take-le, getD-take}
-use lib.ListN.{length-set}
-use mathlib.Core.Path.{ap₂}
-use Prim.Native.Nat.{ℕ, _+_, _*_, _/_, _%_, min}
-use Prim.Native.Nat.{_-_, _≤_}
-use mathlib.Core.Path.{_≡_, refl, sym, ap, _∙_}
-use lib.ListN.{length, take}
-use lib.Seq.{paste}
+-- After i turns the first i bytes stand at the buffer's start.
+use Prim.Native.Nat.{ℕ, _+_, _*_, _/_, _%_, min, _-_, _≤_}
+use mathlib.Core.Path.{ap₂, _≡_, refl, sym, ap, _∙_}
 use native.Mathlib.Omega.{arith}
-use Rattle.terminal.specs.Digits.{pairs}
 use borrow.Author.Needs.{needs}
+use lib.ListN.{getD, set, length-set, length, take}
+use lib.Seq.{length-take-le, getD-take, paste}
+use Rattle.octets.proofs.Buffers.{lay-start, lay-turn}
+use Rattle.terminal.specs.Digits.{pairs}
+use Rattle.terminal.proofs.Pairs.{pairs-length, pairs-at, lay-begun}
 use Rattle.terminal.proofs.digits.decode.Statement.{statement}
 use Rattle.terminal.proofs.digits.decode.Tie as tie
 
@@ -101,11 +95,7 @@ returns c =
       (fits, sym (length-take-le _ (l .buffer) fits)),
       record {
         counted = n .ensures .0 ∙ ap (λ (k : ℕ). min k (length (a .buffer .now))) (sym long);
-        holds =
-            l .inv .2
-            ∙ ap (paste (a .buffer .now) 0 (take (n .result) (pairs text))) end
-            ∙ lay-end (a .buffer .now) 0 (take (n .result) (pairs text))
-            ∙ ap (λ (k : ℕ). take (n .result) (pairs text) ++ drop k (a .buffer .now)) (zero-add (length (take (n .result) (pairs text))));
+        holds = lay-begun (l .buffer) (a .buffer .now) (take (n .result) (pairs text)) (l .i) end (l .inv .2);
       },
     )
 

@@ -1,10 +1,11 @@
+-- The characters passed and the run from there on make the whole run.
 use Prim.Native.Nat.{_+_, _-_, _≤_}
-use mathlib.Core.Path.{_≡_, refl, sym, ap, _∙_}
-use lib.ListN.{length, drop}
+use mathlib.Core.Path.{_≡_}
 use native.Mathlib.Omega.{arith}
+use borrow.Author.Needs.{needs}
+use lib.ListN.{length, drop}
 use Rattle.terminal.specs.Digits.{run}
 use Rattle.terminal.proofs.Values.{run-turn, run-stops, run-ends}
-use borrow.Author.Needs.{needs}
 use Rattle.terminal.proofs.digits.digits.Statement.{statement}
 use Rattle.terminal.proofs.digits.digits.Tie as tie
 

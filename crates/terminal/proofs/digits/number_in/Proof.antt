@@ -1,9 +1,10 @@
-use Rattle.terminal.proofs.Reading.{no-digit, nothing, all-digits}
-use Rattle.terminal.specs.Numbers.{fitting}
-use native.Mathlib.Omega.{arith}
-use mathlib.Core.Path.{sym, ap, _∙_}
+-- The run of digits says whether all characters are digits.
 use Prim.Native.Nat.{ℕ}
+use mathlib.Core.Path.{sym, ap, _∙_}
+use native.Mathlib.Omega.{arith}
 use borrow.Author.Needs.{needs}
+use Rattle.terminal.specs.Numbers.{fitting}
+use Rattle.terminal.proofs.Reading.{no-digit, nothing, all-digits}
 use Rattle.terminal.proofs.digits.number_in.Statement.{statement}
 use Rattle.terminal.proofs.digits.number_in.Tie as tie
 

@@ -1,14 +1,13 @@
-use Rattle.terminal.specs.declared.digits.Number.the-variants.{Value}
-use Rattle.terminal.specs.Digits.{valueOf}
-use lib.ListN.{getD}
-use Prim.Native.Nat.{ℕ, _+_, _*_}
-use Prim.Native.Nat.{_-_, _^_, _≤_, _<_}
+-- What is left to read from the number so far gives the number of all digits.
+use Prim.Native.Nat.{ℕ, _+_, _*_, _-_, _^_, _≤_, _<_}
 use mathlib.Core.Path.{_≡_, refl, sym, ap, _∙_}
-use lib.ListN.{length, drop}
 use native.Mathlib.Omega.{arith}
-use Rattle.terminal.specs.Numbers.{readOn, spelled}
-use Rattle.terminal.proofs.Reading.{grows, read-turn, read-ends, next-fits, next-wraps, fits, wraps}
 use borrow.Author.Needs.{needs}
+use lib.ListN.{getD, length, drop}
+use Rattle.terminal.specs.Digits.{valueOf}
+use Rattle.terminal.specs.Numbers.{readOn, spelled}
+use Rattle.terminal.specs.declared.digits.Number.the-variants.{Value}
+use Rattle.terminal.proofs.Reading.{grows, read-turn, read-ends, next-fits, next-wraps, fits, wraps}
 use Rattle.terminal.proofs.digits.spell.Statement.{statement}
 use Rattle.terminal.proofs.digits.spell.Tie as tie
 

@@ -1,7 +1,8 @@
+-- The tests on the way say where the character stands.
+use mathlib.Core.Path.{sym}
 use native.Mathlib.Omega.{arith}
-use Rattle.terminal.proofs.Values.{before-digits, at-digit, before-capitals, at-capital, before-letters, at-letter, behind-letters}
-use mathlib.Core.Path.{sym, _∙_}
 use borrow.Author.Needs.{needs}
+use Rattle.terminal.proofs.Values.{before-digits, at-digit, before-capitals, at-capital, before-letters, at-letter, behind-letters}
 use Rattle.terminal.proofs.digits.value.Statement.{statement}
 use Rattle.terminal.proofs.digits.value.Tie as tie
 

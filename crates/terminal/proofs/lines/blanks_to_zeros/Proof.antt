@@ -1,9 +1,9 @@
-use lib.ListN.{length-set}
-use native.Mathlib.Omega.{arith}
+-- The text keeps its length.
 use Prim.Native.Nat.{_-_, _≤_}
 use mathlib.Core.Path.{_≡_}
-use lib.ListN.{length}
+use native.Mathlib.Omega.{arith}
 use borrow.Author.Needs.{needs}
+use lib.ListN.{length-set, length}
 use Rattle.terminal.proofs.lines.blanks_to_zeros.Statement.{statement}
 use Rattle.terminal.proofs.lines.blanks_to_zeros.Tie as tie
 

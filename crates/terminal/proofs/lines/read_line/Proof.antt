@@ -1,10 +1,10 @@
-use lib.ListN.{length-set}
-use native.Mathlib.Omega.{arith}
+-- The characters taken stay within the line; both buffers keep their lengths.
 use Prim.Native.Nat.{_-_, _≤_}
-use mathlib.Core.Path.{_≡_, refl, sym}
-use lib.ListN.{length}
-use lib.Seq.{length-take-le}
+use mathlib.Core.Path.{_≡_, sym}
+use native.Mathlib.Omega.{arith}
 use borrow.Author.Needs.{needs}
+use lib.ListN.{length-set, length}
+use lib.Seq.{length-take-le}
 use Rattle.terminal.proofs.lines.read_line.Statement.{statement}
 use Rattle.terminal.proofs.lines.read_line.Tie as tie
 

@@ -1,7 +1,7 @@
-use native.Mathlib.Omega.{arith}
+-- The turns left fall; the chunk keeps its length.
 use mathlib.Core.Path.{_≡_}
-use lib.ListN.{length}
 use borrow.Author.Needs.{needs}
+use lib.ListN.{length}
 use Rattle.terminal.proofs.lines.skip_line.Statement.{statement}
 use Rattle.terminal.proofs.lines.skip_line.Tie as tie
 

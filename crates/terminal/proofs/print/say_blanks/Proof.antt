@@ -1,4 +1,4 @@
-use native.Mathlib.Omega.{arith}
+-- The blanks left fall.
 use borrow.Author.Needs.{needs}
 use Rattle.terminal.proofs.print.say_blanks.Statement.{statement}
 use Rattle.terminal.proofs.print.say_blanks.Tie as tie

@@ -1,8 +1,9 @@
+-- There are no more words than characters passed.
 use Prim.Native.Nat.{_-_, _≤_}
-use lib.ListN.{length}
 use mathlib.Core.Logic.{⊎-elim}
 use native.Mathlib.Omega.{arith}
 use borrow.Author.Needs.{needs}
+use lib.ListN.{length}
 use Rattle.terminal.proofs.words.count.Statement.{statement}
 use Rattle.terminal.proofs.words.count.Tie as tie
 

@@ -1,6 +1,7 @@
+-- The place stays behind the start and within the text.
 use Prim.Native.Nat.{_-_, _≤_}
-use lib.ListN.{length}
 use borrow.Author.Needs.{needs}
+use lib.ListN.{length}
 use Rattle.terminal.proofs.words.next_separator.Statement.{statement}
 use Rattle.terminal.proofs.words.next_separator.Tie as tie
 

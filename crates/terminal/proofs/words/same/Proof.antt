@@ -1,13 +1,13 @@
-use Rattle.octets.proofs.Same.{equal-same, unequal-same}
-use borrow.Author.Count.{below-more}
-use lib.Seq.{ext-getD}
-use mathlib.Core.List.{List}
-use mathlib.Core.Path.{sym, ap}
+-- The characters passed are the same.
 use Prim.Native.Nat.{ℕ, _-_, _≤_, _<_}
-use mathlib.Core.Path.{_≡_}
-use lib.ListN.{length, getD}
+use mathlib.Core.List.{List}
+use mathlib.Core.Path.{sym, ap, _≡_}
 use native.Mathlib.Omega.{arith}
+use borrow.Author.Count.{below-more}
 use borrow.Author.Needs.{needs}
+use lib.ListN.{length, getD}
+use lib.Seq.{ext-getD}
+use Rattle.octets.proofs.Same.{equal-same, unequal-same}
 use Rattle.terminal.proofs.words.same.Statement.{statement}
 use Rattle.terminal.proofs.words.same.Tie as tie
 

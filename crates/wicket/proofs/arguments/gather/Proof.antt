@@ -1,9 +1,9 @@
-use lib.Seq.{length-take-le}
-use mathlib.Core.Path.{sym}
-use Prim.Native.Nat.{_-_, _≤_, _^_}
-use mathlib.Core.Path.{_≡_}
-use lib.ListN.{length}
+-- What is gathered stays within the line.
+use Prim.Native.Nat.{_-_, _≤_}
+use mathlib.Core.Path.{sym, _≡_}
 use borrow.Author.Needs.{needs}
+use lib.ListN.{length}
+use lib.Seq.{length-take-le}
 use Rattle.wicket.proofs.arguments.gather.Statement.{statement}
 use Rattle.wicket.proofs.arguments.gather.Tie as tie
 

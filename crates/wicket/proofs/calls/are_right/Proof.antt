@@ -1,6 +1,5 @@
-use Prim.Native.Nat.{_-_, _≤_, _^_}
-use mathlib.Core.Path.{_≡_}
-use lib.ListN.{length}
+-- The words left fall.
+use Prim.Native.Nat.{_-_}
 use borrow.Author.Needs.{needs}
 use Rattle.wicket.proofs.calls.are_right.Statement.{statement}
 use Rattle.wicket.proofs.calls.are_right.Tie as tie

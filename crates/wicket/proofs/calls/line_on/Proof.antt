@@ -1,7 +1,7 @@
-use Prim.Native.Nat.{_-_, _≤_, _^_}
-use mathlib.Core.Path.{_≡_}
-use lib.ListN.{length}
+-- The place stays within the manual.
+use Prim.Native.Nat.{_-_, _≤_}
 use borrow.Author.Needs.{needs}
+use lib.ListN.{length}
 use Rattle.wicket.proofs.calls.line_on.Statement.{statement}
 use Rattle.wicket.proofs.calls.line_on.Tie as tie
 

@@ -1,7 +1,8 @@
-use Prim.Native.Nat.{_-_, _≤_, _^_}
+-- The line number rises to the largest number; both buffers keep their lengths.
+use Prim.Native.Nat.{_-_, _^_}
 use mathlib.Core.Path.{_≡_}
-use lib.ListN.{length}
 use borrow.Author.Needs.{needs}
+use lib.ListN.{length}
 use Rattle.wicket.proofs.receiving.receive_all.Statement.{statement}
 use Rattle.wicket.proofs.receiving.receive_all.Tie as tie
 
