@@ -55,26 +55,26 @@ pub fn say_blanks(count: usize) {
     }
 }
 
-// How many blanks fill a cell of a width, and none where it is full.
-fn gap(width: usize, length: usize) -> usize
-    ensures { λ r. ⌜ r ≡ width - length ⌝ }
+// One number less another, and 0 where the other is larger.
+pub fn less(a: usize, b: usize) -> usize
+    ensures { λ r. ⌜ r ≡ a - b ⌝ }
 {
-    if width < length {
+    if a < b {
         return 0;
     }
-    width - length
+    a - b
 }
 
 // The text in a cell of a width, at its left.
 pub fn say_left(text: &[u8], width: usize) {
     say(text);
-    say_blanks(gap(width, text.len()));
+    say_blanks(less(width, text.len()));
 }
 
 // The number in decimal in a cell of a width, at its right.
 pub fn say_right(number: u64, width: usize) {
     let mut text = [0u8; 20];
     let length = io::decimal(number, &mut text);
-    say_blanks(gap(width, length));
+    say_blanks(less(width, length));
     say(&text[..length]);
 }

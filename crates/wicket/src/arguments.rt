@@ -14,7 +14,7 @@ fn append(line: &mut [u8], end: usize, index: usize) -> Gathered
     requires { ⌜ end ≤ length (now line) ⌝ }
     ensures { λ r. ⌜ r .length ≤ length (now (line .exit)) ⌝ }
 {
-    let mut word = [0u8; 16384];
+    let mut word = io::large_buffer();
     let count = os::arg(index, &mut word);
     if os::errno() != 0 {
         return Gathered {

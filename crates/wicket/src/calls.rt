@@ -2,12 +2,12 @@
 use crate::fields;
 use crate::fields::END;
 use crate::fields::wrong;
+use terminal::print::less;
 use terminal::words::count;
 use terminal::words::next_separator;
 use terminal::words::same;
 use terminal::words::word;
-ghost use mathlib.Core.Path.{_≡_};
-ghost use Prim.Native.Nat.{_-_, _≤_};
+ghost use Prim.Native.Nat.{_≤_};
 ghost use lib.ListN.{length};
 
 // Where the manual's line on a command starts, or the end where there is none.
@@ -52,16 +52,6 @@ pub fn show(manual: &[u8]) {
     terminal::say(
         b"FILE has a datagram, or a call for a script, on each line; # starts a comment; - is the input\n",
     );
-}
-
-// One number less another, and 0 where the other is larger.
-fn less(a: usize, b: usize) -> usize
-    ensures { λ r. ⌜ r ≡ a - b ⌝ }
-{
-    if a < b {
-        return 0;
-    }
-    a - b
 }
 
 // Whether there are as many words behind a command as the manual's line has; where not, it is said how many.

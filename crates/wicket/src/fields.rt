@@ -152,7 +152,8 @@ pub fn acknowledged(line: &[u8], index: usize) -> Acknowledged {
     Acknowledged::UpTo(FullPn(number(line, index)))
 }
 
-// The bytes that a word of a call spells, put at the buffer's start; how many there are.
+// The bytes that a word of a call spells, put at the buffer's start; how many there are. A page holds more than any field may have,
+// so that a longer word is refused as it would be whole.
 pub fn bytes(line: &[u8], index: usize, buffer: &mut [u8]) -> usize
     ensures { λ r. ⌜ Counts r (now (buffer .exit)) ⌝ }
 {

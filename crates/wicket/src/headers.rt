@@ -23,7 +23,7 @@ fn read(header: Header, datagram: &[u8]) {
 
 // wicket header DATAGRAM
 pub fn header(line: &[u8]) {
-    let mut datagram = [0u8; 8192];
+    let mut datagram = io::buffer();
     let length = fields::bytes(line, 1, &mut datagram);
     match read_header(&datagram[..length]) {
         Reading::Refused(why) => answers::refused(why),

@@ -28,10 +28,10 @@ pub fn open(line: &[u8]) {
         return;
     }
     let keys = made.keys;
-    let mut datagram = [0u8; 8192];
+    let mut datagram = io::buffer();
     let length = fields::bytes(line, 5, &mut datagram);
     let mut expected = fields::number(line, 4);
-    let mut out = [0u8; 1500];
+    let mut out = io::buffer();
     match open::open(keys, &mut expected, &datagram[..length], &mut out) {
         Opening::Refused(why) => answers::refused(why),
         Opening::Opened(found) => opened(found, &out, expected),

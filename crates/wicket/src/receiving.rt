@@ -46,9 +46,9 @@ fn opened(found: Opened, buffer: &[u8], length: usize) {
 
 // One datagram comes: a row of the answer.
 fn arrive(keys: Keys, expected: &mut u64, text: &[u8], tally: Tally) -> Tally {
-    let mut datagram = [0u8; 8192];
+    let mut datagram = io::buffer();
     let length = terminal::decode(text, &mut datagram);
-    let mut out = [0u8; 1500];
+    let mut out = io::buffer();
     match open::open(keys, expected, &datagram[..length], &mut out) {
         Opening::Refused(why) => {
             answers::refused(why);
@@ -142,8 +142,8 @@ pub fn receive(line: &[u8]) {
     if file < 0 {
         return;
     }
-    let mut chunk = [0u8; 4096];
-    let mut text = [0u8; 16384];
+    let mut chunk = io::buffer();
+    let mut text = io::large_buffer();
     terminal::say(b" line  number  payload  its first bytes\n");
     receive_all(keys, fields::number(line, 4), file, &mut chunk, &mut text);
     libc::close(file);

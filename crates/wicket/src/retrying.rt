@@ -11,15 +11,15 @@ use retry::retry_token;
 
 // wicket retry VERSION ORIGINAL DESTINATION SOURCE TOKEN LOW-BITS
 pub fn retry(line: &[u8]) {
-    let mut original = [0u8; 8192];
+    let mut original = io::buffer();
     let original_length = fields::bytes(line, 2, &mut original);
-    let mut destination = [0u8; 8192];
+    let mut destination = io::buffer();
     let destination_length = fields::bytes(line, 3, &mut destination);
-    let mut source = [0u8; 8192];
+    let mut source = io::buffer();
     let source_length = fields::bytes(line, 4, &mut source);
-    let mut token = [0u8; 8192];
+    let mut token = io::buffer();
     let token_length = fields::bytes(line, 5, &mut token);
-    let mut out = [0u8; 1500];
+    let mut out = io::buffer();
     match retry::write_retry(
         fields::version(line, 1),
         &original[..original_length],
@@ -51,9 +51,9 @@ fn checked(found: RetryFields, original: &[u8], datagram: &[u8]) {
 
 // wicket check-retry ORIGINAL DATAGRAM
 pub fn check_retry(line: &[u8]) {
-    let mut original = [0u8; 8192];
+    let mut original = io::buffer();
     let count = fields::bytes(line, 1, &mut original);
-    let mut datagram = [0u8; 8192];
+    let mut datagram = io::buffer();
     let length = fields::bytes(line, 2, &mut datagram);
     match retry::check_retry(&original[..count], &datagram[..length]) {
         Checking::Refused(why) => answers::refused(why),

@@ -53,8 +53,8 @@ fn script(path: &[u8], manual: &[u8]) {
     if file < 0 {
         return;
     }
-    let mut chunk = [0u8; 4096];
-    let mut text = [0u8; 16384];
+    let mut chunk = io::buffer();
+    let mut text = io::large_buffer();
     run_all(file, &mut chunk, &mut text, manual);
     libc::close(file);
 }
@@ -72,7 +72,7 @@ fn start(line: &[u8], manual: &[u8]) {
 
 // The program's own call, by its arguments.
 pub fn program(manual: &[u8]) {
-    let mut line = [0u8; 16384];
+    let mut line = io::large_buffer();
     let gathered = gather(&mut line);
     let length = gathered.length;
     if gathered.too_long != 0 {

@@ -8,7 +8,7 @@ use wire::number::FullPn;
 
 // The keys that the first three words behind a command name.
 pub fn keys_of(line: &[u8]) -> InitialKeys {
-    let mut id = [0u8; 8192];
+    let mut id = io::buffer();
     let length = fields::bytes(line, 2, &mut id);
     initial_keys(
         fields::version(line, 1),
@@ -48,15 +48,15 @@ pub fn seal(line: &[u8]) {
         return;
     }
     let keys = made.keys;
-    let mut destination = [0u8; 8192];
+    let mut destination = io::buffer();
     let destination_length = fields::bytes(line, 7, &mut destination);
-    let mut source = [0u8; 8192];
+    let mut source = io::buffer();
     let source_length = fields::bytes(line, 8, &mut source);
-    let mut token = [0u8; 8192];
+    let mut token = io::buffer();
     let token_length = fields::bytes(line, 9, &mut token);
-    let mut payload = [0u8; 8192];
+    let mut payload = io::buffer();
     let payload_length = fields::bytes(line, 10, &mut payload);
-    let mut out = [0u8; 1500];
+    let mut out = io::buffer();
     match seal::seal(
         keys,
         FullPn(fields::number(line, 4)),
