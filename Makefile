@@ -9,13 +9,18 @@ cargo = cargo --quiet --offline --locked
 # How often the second program does everything: `make second TIMES=100` for many more comparisons.
 TIMES = 4
 
-# Prove the library and the program of vectors, run it, and show what it wrote: `rt check` has held that to the papers' values.
+# Prove the library and wicket, run its demonstration, and show what it wrote: `rt check` has held that to crates/wicket/stdout.
+# A line that is longer than the screen is cut, and says so by its end.
 demo:
-	@echo "Proving the library and running the papers' vectors through it (some minutes the first time) ..."
+	@echo "Proving the library and wicket, and running its demonstration (some minutes the first time) ..."
 	@mkdir -p target
-	@rt check vectors > target/demo.log 2>&1 || { tail -n 40 target/demo.log; exit 1; }
-	@echo "Proved. The program wrote, as the papers have it:"
-	@cut -c 1-110 crates/vectors/stdout
+	@rt check wicket > target/demo.log 2>&1 || { tail -n 40 target/demo.log; exit 1; }
+	@echo "Proved. crates/wicket/data/demo is a script of calls: the packets of RFC 9001 and of the version 2 draft, a receiver"
+	@echo "through loss, repeats, late packets and rubbish, each refusal, and wrong calls. It wrote:"
+	@echo
+	@sed -E 's/^(.{116}).{5,}$$/\1 .../' crates/wicket/stdout
+	@echo
+	@echo "A call of your own: tools/wicket keys 1 8394c8f03e515708 client"
 
 # The static library for C and for Rust: target/staticlib/libdriftwicket.a, for the machine at hand. Its header is
 # include/driftwicket.h.

@@ -1,0 +1,4 @@
+pub mod Values
+pub mod Pairs
+pub mod Hex
+pub mod Reading

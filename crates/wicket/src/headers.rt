@@ -1,0 +1,32 @@
+// wicket header.
+use crate::answers;
+use crate::fields;
+use wire::header::Header;
+use wire::header::Reading;
+use wire::header::header_destination;
+use wire::header::header_source;
+use wire::header::header_token;
+use wire::header::read_header;
+
+// The fields of a header that was read from a datagram.
+fn read(header: Header, datagram: &[u8]) {
+    let destination = header.destination;
+    let source = header.source;
+    let token = header.token;
+    answers::version(header.version);
+    answers::part(b"destination", destination, header_destination(datagram));
+    answers::part(b"source", source, header_source(datagram));
+    answers::part(b"token", token, header_token(datagram));
+    answers::number(b"Length", header.length as u64);
+    answers::number(b"number at", header.number_at as u64);
+}
+
+// wicket header DATAGRAM
+pub fn header(line: &[u8]) {
+    let mut datagram = io::buffer();
+    let length = fields::bytes(line, 1, &mut datagram);
+    match read_header(&datagram[..length]) {
+        Reading::Refused(why) => answers::refused(why),
+        Reading::Read(header) => read(header, &datagram[..length]),
+    }
+}

@@ -1,0 +1,25 @@
+// wicket: the library at a terminal.
+mod answers;
+mod arguments;
+mod calls;
+mod fields;
+mod files;
+mod headers;
+mod opening;
+mod receiving;
+mod retrying;
+mod scripts;
+mod sealing;
+
+fn main() {
+    let manual = b"wicket keys VERSION ID client|server
+wicket seal VERSION ID client|server NUMBER ACKNOWLEDGED LENGTH DESTINATION SOURCE TOKEN PAYLOAD
+wicket open VERSION ID client|server EXPECTED DATAGRAM
+wicket header DATAGRAM
+wicket retry VERSION ORIGINAL DESTINATION SOURCE TOKEN LOW-BITS
+wicket check-retry ORIGINAL DATAGRAM
+wicket receive VERSION ID client|server EXPECTED FILE
+wicket script FILE
+";
+    scripts::program(manual);
+}
