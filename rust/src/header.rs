@@ -5,81 +5,18 @@ use crate::{ffi, Refusal, Version};
 /// What can be read of an Initial packet without keys. Both IDs and the token are parts of the caller's datagram.
 #[derive(Clone, Copy, Debug, PartialEq, Eq)]
 pub struct Header<'d> {
-    version: Version,
-    destination: &'d [u8],
-    source: &'d [u8],
-    token: &'d [u8],
-    length: usize,
-    number_at: usize,
-}
-
-impl<'d> Header<'d> {
     /// The packet's version.
-    ///
-    /// ```
-    /// let datagram = [&b"\xc0\x00\x00\x00\x01\x04unit\x02me\x05token\x14"[..], &[0; 20]].concat();
-    /// assert_eq!(driftwicket::read_header(&datagram)?.version(), driftwicket::Version::ONE);
-    /// # Ok::<(), driftwicket::Refusal>(())
-    /// ```
-    pub fn version(&self) -> Version {
-        self.version
-    }
-
+    pub version: Version,
     /// The Destination Connection ID. The keys of a client's first Initial are made from it.
-    ///
-    /// ```
-    /// let datagram = [&b"\xc0\x00\x00\x00\x01\x04unit\x02me\x05token\x14"[..], &[0; 20]].concat();
-    /// assert_eq!(driftwicket::read_header(&datagram)?.destination(), b"unit");
-    /// # Ok::<(), driftwicket::Refusal>(())
-    /// ```
-    pub fn destination(&self) -> &'d [u8] {
-        self.destination
-    }
-
+    pub destination: &'d [u8],
     /// The Source Connection ID.
-    ///
-    /// ```
-    /// let datagram = [&b"\xc0\x00\x00\x00\x01\x04unit\x02me\x05token\x14"[..], &[0; 20]].concat();
-    /// assert_eq!(driftwicket::read_header(&datagram)?.source(), b"me");
-    /// # Ok::<(), driftwicket::Refusal>(())
-    /// ```
-    pub fn source(&self) -> &'d [u8] {
-        self.source
-    }
-
+    pub source: &'d [u8],
     /// The token; often empty.
-    ///
-    /// ```
-    /// let datagram = [&b"\xc0\x00\x00\x00\x01\x04unit\x02me\x05token\x14"[..], &[0; 20]].concat();
-    /// assert_eq!(driftwicket::read_header(&datagram)?.token(), b"token");
-    /// # Ok::<(), driftwicket::Refusal>(())
-    /// ```
-    pub fn token(&self) -> &'d [u8] {
-        self.token
-    }
-
+    pub token: &'d [u8],
     /// Length: how many bytes number, payload and tag take together.
-    ///
-    /// ```
-    /// let datagram = [&b"\xc0\x00\x00\x00\x01\x04unit\x02me\x05token\x14"[..], &[0; 20]].concat();
-    /// assert_eq!(driftwicket::read_header(&datagram)?.length(), 20);
-    /// # Ok::<(), driftwicket::Refusal>(())
-    /// ```
-    pub fn length(&self) -> usize {
-        self.length
-    }
-
-    /// Where in the datagram the number starts, which is masked still. The packet ends [`length`](Header::length) bytes
-    /// behind this place.
-    ///
-    /// ```
-    /// let datagram = [&b"\xc0\x00\x00\x00\x01\x04unit\x02me\x05token\x14"[..], &[0; 20]].concat();
-    /// assert_eq!(driftwicket::read_header(&datagram)?.number_at(), 20);
-    /// # Ok::<(), driftwicket::Refusal>(())
-    /// ```
-    pub fn number_at(&self) -> usize {
-        self.number_at
-    }
+    pub length: usize,
+    /// Where in the datagram the number starts, which is masked still. The packet ends `length` bytes behind this place.
+    pub number_at: usize,
 }
 
 /// Reads the header of the Initial packet at a datagram's start. What stands behind the packet isn't looked at.
@@ -95,12 +32,12 @@ impl<'d> Header<'d> {
 /// datagram.resize(1_200, 0);
 ///
 /// let header = read_header(&datagram)?;
-/// assert_eq!(header.version(), Version::ONE);
-/// assert_eq!(header.destination(), 0x8394c8f03e515708_u64.to_be_bytes());
-/// assert_eq!(header.source(), b"");
-/// assert_eq!(header.token(), b"");
-/// assert_eq!(header.number_at(), 18);
-/// assert_eq!(header.length(), 1_182);
+/// assert_eq!(header.version, Version::ONE);
+/// assert_eq!(header.destination, 0x8394c8f03e515708_u64.to_be_bytes());
+/// assert_eq!(header.source, b"");
+/// assert_eq!(header.token, b"");
+/// assert_eq!(header.number_at, 18);
+/// assert_eq!(header.length, 1_182);
 ///
 /// assert_eq!(read_header(&datagram[..1_199]), Err(Refusal::NotWhole));
 /// # Ok::<(), Refusal>(())

@@ -27,7 +27,7 @@
 //!
 //!     // the archive finds that ID in the header, makes the same keys from it, and opens the packet
 //!     let header = read_header(datagram)?;
-//!     let keys = Keys::initial(header.version(), header.destination(), Side::Client)?;
+//!     let keys = Keys::initial(header.version, header.destination, Side::Client)?;
 //!     let mut receiver = Receiver::new(keys);
 //!     let mut plain = [0; LIMIT];
 //!     let opened = receiver.open(datagram, &mut plain)?;

@@ -53,80 +53,14 @@ pub fn write<'o>(packet: &Retry, out: &'o mut [u8]) -> Result<&'o [u8], Refusal>
 /// What a Retry packet carries. Both IDs and the token are parts of the caller's datagram.
 #[derive(Clone, Copy, Debug, PartialEq, Eq)]
 pub struct Checked<'d> {
-    version: Version,
-    destination: &'d [u8],
-    source: &'d [u8],
-    token: &'d [u8],
-}
-
-impl<'d> Checked<'d> {
     /// The packet's version.
-    ///
-    /// ```
-    /// use driftwicket::retry::{self, Retry};
-    /// use driftwicket::Version;
-    ///
-    /// let (version, original) = (Version::ONE, b"original");
-    /// let packet = Retry { version, original, destination: b"unit", source: b"me", token: b"token", low_bits: 0 };
-    /// let mut out = [0; 60];
-    /// let datagram = retry::write(&packet, &mut out)?;
-    /// assert_eq!(retry::check(original, datagram)?.version(), Version::ONE);
-    /// # Ok::<(), driftwicket::Refusal>(())
-    /// ```
-    pub fn version(&self) -> Version {
-        self.version
-    }
-
+    pub version: Version,
     /// The Destination Connection ID.
-    ///
-    /// ```
-    /// use driftwicket::retry::{self, Retry};
-    /// use driftwicket::Version;
-    ///
-    /// let (version, original) = (Version::ONE, b"original");
-    /// let packet = Retry { version, original, destination: b"unit", source: b"me", token: b"token", low_bits: 0 };
-    /// let mut out = [0; 60];
-    /// let datagram = retry::write(&packet, &mut out)?;
-    /// assert_eq!(retry::check(original, datagram)?.destination(), b"unit");
-    /// # Ok::<(), driftwicket::Refusal>(())
-    /// ```
-    pub fn destination(&self) -> &'d [u8] {
-        self.destination
-    }
-
+    pub destination: &'d [u8],
     /// The Source Connection ID. The keys of the client's next Initial are made from it.
-    ///
-    /// ```
-    /// use driftwicket::retry::{self, Retry};
-    /// use driftwicket::Version;
-    ///
-    /// let (version, original) = (Version::ONE, b"original");
-    /// let packet = Retry { version, original, destination: b"unit", source: b"me", token: b"token", low_bits: 0 };
-    /// let mut out = [0; 60];
-    /// let datagram = retry::write(&packet, &mut out)?;
-    /// assert_eq!(retry::check(original, datagram)?.source(), b"me");
-    /// # Ok::<(), driftwicket::Refusal>(())
-    /// ```
-    pub fn source(&self) -> &'d [u8] {
-        self.source
-    }
-
+    pub source: &'d [u8],
     /// The token, which the client's next Initial carries.
-    ///
-    /// ```
-    /// use driftwicket::retry::{self, Retry};
-    /// use driftwicket::Version;
-    ///
-    /// let (version, original) = (Version::ONE, b"original");
-    /// let packet = Retry { version, original, destination: b"unit", source: b"me", token: b"token", low_bits: 0 };
-    /// let mut out = [0; 60];
-    /// let datagram = retry::write(&packet, &mut out)?;
-    /// assert_eq!(retry::check(original, datagram)?.token(), b"token");
-    /// # Ok::<(), driftwicket::Refusal>(())
-    /// ```
-    pub fn token(&self) -> &'d [u8] {
-        self.token
-    }
+    pub token: &'d [u8],
 }
 
 /// Checks the Retry packet that a datagram is, where `original` is the Destination Connection ID of the client's Initial
@@ -146,10 +80,10 @@ impl<'d> Checked<'d> {
 /// .concat();
 /// let original = 0x8394c8f03e515708_u64.to_be_bytes();
 /// let checked = retry::check(&original, &datagram)?;
-/// assert_eq!(checked.version(), Version::ONE);
-/// assert_eq!(checked.destination(), b"");
-/// assert_eq!(checked.source(), 0xf067a5502a4262b5_u64.to_be_bytes());
-/// assert_eq!(checked.token(), b"token");
+/// assert_eq!(checked.version, Version::ONE);
+/// assert_eq!(checked.destination, b"");
+/// assert_eq!(checked.source, 0xf067a5502a4262b5_u64.to_be_bytes());
+/// assert_eq!(checked.token, b"token");
 ///
 /// assert_eq!(retry::check(b"another", &datagram), Err(Refusal::Tag));
 /// # Ok::<(), Refusal>(())

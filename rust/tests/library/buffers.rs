@@ -16,12 +16,12 @@ fn header_parts_are_the_datagrams() {
     let packet = initial(9);
     let datagram = sealed(&packet);
     let header = read_header(&datagram).unwrap();
-    assert_eq!(header.version(), Version::ONE);
-    assert_eq!((header.destination(), place(header.destination(), &datagram)), (packet.destination, 6..17));
-    assert_eq!((header.source(), place(header.source(), &datagram)), (packet.source, 18..24));
-    assert_eq!((header.token(), place(header.token(), &datagram)), (packet.token, 25..32));
-    assert_eq!(header.number_at(), 34);
-    assert_eq!(header.length(), datagram.len() - 34);
+    assert_eq!(header.version, Version::ONE);
+    assert_eq!((header.destination, place(header.destination, &datagram)), (packet.destination, 6..17));
+    assert_eq!((header.source, place(header.source, &datagram)), (packet.source, 18..24));
+    assert_eq!((header.token, place(header.token, &datagram)), (packet.token, 25..32));
+    assert_eq!(header.number_at, 34);
+    assert_eq!(header.length, datagram.len() - 34);
 }
 
 #[test]
@@ -41,9 +41,9 @@ fn retry_parts_are_the_datagrams() {
 
     let datagram = &out[..length];
     let checked = retry::check(&ID, datagram).unwrap();
-    assert_eq!((checked.destination(), place(checked.destination(), datagram)), (packet.destination, 6..17));
-    assert_eq!((checked.source(), place(checked.source(), datagram)), (packet.source, 18..24));
-    assert_eq!((checked.token(), place(checked.token(), datagram)), (packet.token, 24..31));
+    assert_eq!((checked.destination, place(checked.destination, datagram)), (packet.destination, 6..17));
+    assert_eq!((checked.source, place(checked.source, datagram)), (packet.source, 18..24));
+    assert_eq!((checked.token, place(checked.token, datagram)), (packet.token, 24..31));
 }
 
 #[test]

@@ -2,6 +2,7 @@
 
 mod buffers;
 mod papers;
+mod readme;
 mod receiver;
 mod refusals;
 

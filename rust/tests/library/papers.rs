@@ -129,9 +129,9 @@ fn retry_packet() {
         assert_eq!(retry::write(&packet, &mut out).unwrap(), printed);
 
         let checked = retry::check(&ID, &printed).unwrap();
-        assert_eq!(checked.version(), paper.version);
-        assert_eq!(checked.destination(), b"");
-        assert_eq!(checked.source(), SERVER_ID);
-        assert_eq!(checked.token(), b"token");
+        assert_eq!(checked.version, paper.version);
+        assert_eq!(checked.destination, b"");
+        assert_eq!(checked.source, SERVER_ID);
+        assert_eq!(checked.token, b"token");
     }
 }
