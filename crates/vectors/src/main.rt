@@ -1,17 +1,17 @@
 // Public vectors, run through the code: a line for each, held to the papers' values in the file stdout.
 mod cipher;
+mod counts;
 mod galois;
 mod hash;
 mod headers;
 mod initial;
-mod numbers;
 mod opening;
 mod print;
 mod retrying;
 mod sealing;
 
 fn main() {
-    numbers::run();
+    counts::run();
     hash::run();
     cipher::run();
     galois::run();
