@@ -4,7 +4,8 @@ use driftwicket::FullPn;
 use driftwicket::Keys;
 use driftwicket::Side;
 ghost use mathlib.Core.Path.{_≡_};
-ghost use lib.ListN.{length};
+ghost use mathlib.Core.List.{[], _∷_};
+ghost use Rattle.octets.specs.Octets.{number};
 ghost use Rattle.numbers.specs.Answers.{acknowledgedOf};
 ghost use Rattle.packets.specs.KeyRecord.{keysOf};
 ghost use Rattle.keys.specs.Answers.{sideOf};
@@ -30,10 +31,16 @@ pub fn side_by(server: u32) -> Side
     Side::Server
 }
 
+// A version, from its four bytes, the most significant first.
+fn version_of(a: u8, b: u8, c: u8, d: u8) -> u32
+    ensures { λ r. ⌜ r ≡ number (a ∷ b ∷ c ∷ d ∷ []) ⌝ }
+{
+    ((a as u32 * 256 + b as u32) * 256 + c as u32) * 256 + d as u32
+}
+
 // A key record, from its 48 bytes.
-pub fn load_keys(bytes: &[u8]) -> Keys
-    requires { ⌜ length (now bytes) ≡ 48 ⌝ }
-    ensures { λ r. ⌜ keysOf r ≡ keysIn (now (bytes .entry)) ⌝ }
+pub fn load_keys(bytes: [u8; 48]) -> Keys
+    ensures { λ r. ⌜ keysOf r ≡ keysIn bytes ⌝ }
 {
     let mut key = [0u8; 16];
     octets::copy(&mut key, 0, &bytes[4..20]);
@@ -42,7 +49,7 @@ pub fn load_keys(bytes: &[u8]) -> Keys
     let mut hp = [0u8; 16];
     octets::copy(&mut hp, 0, &bytes[32..48]);
     Keys {
-        version: octets::load(&bytes[0..4]) as u32,
+        version: version_of(bytes[0], bytes[1], bytes[2], bytes[3]),
         key,
         iv,
         hp,
@@ -50,12 +57,13 @@ pub fn load_keys(bytes: &[u8]) -> Keys
 }
 
 // A key record's 48 bytes.
-pub fn store_keys(version: u32, key: &[u8; 16], iv: &[u8; 12], hp: &[u8; 16], bytes: &mut [u8])
-    requires { ⌜ length (now bytes) ≡ 48 ⌝ }
-    ensures { λ _. ⌜ now (bytes .exit) ≡ keyBytes (record { version = version; key = now (key .entry); iv = now (iv .entry); hp = now (hp .entry) }) ⌝ }
+pub fn key_bytes(version: u32, key: &[u8; 16], iv: &[u8; 12], hp: &[u8; 16]) -> [u8; 48]
+    ensures { λ r. ⌜ r ≡ keyBytes (record { version = version; key = now (key .entry); iv = now (iv .entry); hp = now (hp .entry) }) ⌝ }
 {
-    octets::store(bytes, 0, 4, version as u64);
-    octets::copy(bytes, 4, key);
-    octets::copy(bytes, 20, iv);
-    octets::copy(bytes, 32, hp);
+    let mut bytes = [0u8; 48];
+    octets::store(&mut bytes, 0, 4, version as u64);
+    octets::copy(&mut bytes, 4, key);
+    octets::copy(&mut bytes, 20, iv);
+    octets::copy(&mut bytes, 32, hp);
+    bytes
 }

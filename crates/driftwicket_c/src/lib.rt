@@ -1,9 +1,9 @@
 // The library for C: each entry point on numbers and lent bytes. It answers 0 or the refusal's number, and reports only with 0.
 // To C a slice is a pointer and a length, and a reference a pointer alone (include/driftwicket.h).
 use crate::arguments::acknowledged_by;
+use crate::arguments::key_bytes;
 use crate::arguments::load_keys;
 use crate::arguments::side_by;
-use crate::arguments::store_keys;
 use driftwicket::Checking;
 use driftwicket::FullPn;
 use driftwicket::Integer;
@@ -116,7 +116,7 @@ pub extern "C" fn dw_initial_keys(
     let key = record.key;
     let iv = record.iv;
     let hp = record.hp;
-    store_keys(record.version, &key, &iv, &hp, keys);
+    *keys = key_bytes(record.version, &key, &iv, &hp);
     0
 }
 
@@ -138,7 +138,7 @@ pub extern "C" fn dw_seal(
     ensures { λ r. ⌜ DwSeal (now (keys .entry)) «any_acknowledged» acknowledged (record { destination = now (destination .entry); source = now (source .entry); token = now (token .entry); payload = now (payload .entry); packetNumber = number; numberLength = length }) (now (report .entry)) r (now (report .exit)) (now (out .entry)) (now (out .exit)) ⌝ }
 {
     match driftwicket::seal(
-        load_keys(keys),
+        load_keys(*keys),
         FullPn(number),
         acknowledged_by(any_acknowledged, acknowledged),
         length,
@@ -168,7 +168,7 @@ pub extern "C" fn dw_open(
 ) -> u32
     ensures { λ r. ⌜ DwOpen (now (keys .entry)) (now (datagram .entry)) (now (expected .entry)) (now (expected .exit)) (now (report .entry)) r (now (report .exit)) (now (out .entry)) (now (out .exit)) ⌝ }
 {
-    match driftwicket::open(load_keys(keys), expected, datagram, out) {
+    match driftwicket::open(load_keys(*keys), expected, datagram, out) {
         Opening::Refused(why) => why as u32,
         Opening::Opened(opened) => {
             let number = opened.number;

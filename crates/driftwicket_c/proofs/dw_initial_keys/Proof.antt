@@ -16,11 +16,11 @@ cast-result c = search needs
 returns : tie.Need-returns
 returns c = keys-refused (c .before .before .before .before .side-by .ensures) (c .before .before .before .initial-keys .ensures) (c .before .if1 .taken)
 
-store-keys-requires : tie.Need-store-keys-requires
-store-keys-requires c κs = search needs
+key-bytes-requires : tie.Need-key-bytes-requires
+key-bytes-requires c κs = search needs
 
 returns-2 : tie.Need-returns-2
-returns-2 c = keys-given (c .before .before .before .before .before .before .before .before .before .before .before .before .side-by .ensures) (c .before .before .before .before .before .before .before .before .before .before .before .initial-keys .ensures) (c .before .before .before .before .before .before .before .before .before .if1 .left) (c .store-keys .ensures)
+returns-2 c = keys-given (c .before .before .before .before .before .before .before .before .before .before .before .side-by .ensures) (c .before .before .before .before .before .before .before .before .before .before .initial-keys .ensures) (c .before .before .before .before .before .before .before .before .if1 .left) (c .key-bytes .ensures)
 
 pub dw-initial-keys-spec : {M : Type 1} → statement M
 dw-initial-keys-spec =
@@ -30,5 +30,5 @@ dw-initial-keys-spec =
     initial-keys-requires
     cast-result
     returns
-    store-keys-requires
+    key-bytes-requires
     returns-2)

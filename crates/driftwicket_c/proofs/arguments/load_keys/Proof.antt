@@ -1,11 +1,10 @@
--- Each part fills its array, and four bytes spell a version.
+-- Each part fills its array, and the first four bytes spell the version.
 use mathlib.Core.Path.{refl, _∙_}
-use borrow.Author.Needs.{needs}
 use native.Mathlib.Omega.{arith}
 use lib.ListN.{replicate}
-use Rattle.wire.proofs.Fields.{four-bytes}
 use Rattle.octets.proofs.Buffers.{whole-part}
-use Rattle.driftwicket_c.proofs.KeyRecords.{keys-read}
+use Rattle.driftwicket_c.proofs.KeyRecords.{keys-read, first-four}
+use borrow.Author.Needs.{needs}
 use Rattle.driftwicket_c.proofs.arguments.load_keys.Statement.{statement}
 use Rattle.driftwicket_c.proofs.arguments.load_keys.Tie as tie
 
@@ -54,30 +53,29 @@ part-copy-end-3 c = search needs
 copy-requires-3 : tie.Need-copy-requires-3
 copy-requires-3 c κs = search needs
 
-sub-load : tie.Need-sub-load
-sub-load c = search needs
+array-read-version-of : tie.Need-array-read-version-of
+array-read-version-of c = search needs
 
-part-load-start : tie.Need-part-load-start
-part-load-start c = search needs
+array-read-version-of-2 : tie.Need-array-read-version-of-2
+array-read-version-of-2 c = search needs
 
-part-load-end : tie.Need-part-load-end
-part-load-end c = search needs
+array-read-version-of-3 : tie.Need-array-read-version-of-3
+array-read-version-of-3 c = search needs
 
-load-requires : tie.Need-load-requires
-load-requires c κs = search needs
+array-read-version-of-4 : tie.Need-array-read-version-of-4
+array-read-version-of-4 c = search needs
 
-cast-t26 : tie.Need-cast-t26
-cast-t26 c =
-    let fits = four-bytes (c .before .before .before .before .before .before .before .before .before .before .before .before .before .before .before .args .bytes .now) 0 (λ i. c .before .before .before .before .before .before .before .before .before .before .before .before .before .before .shared-slice-known .given i .fits) (omega arith) in
-    omega (arith, c .load .ensures)
+version-of-requires : tie.Need-version-of-requires
+version-of-requires c κs = search needs
 
 returns : tie.Need-returns
 returns c =
-    keys-read (c .before .before .before .before .before .before .before .before .before .before .before .before .before .before .before .args .bytes .now)
-    (c .load .ensures)
-    (c .before .before .before .before .before .before .before .before .before .before .before .copy .ensures ∙ whole-part (replicate 16 0) (c .before .before .before .before .before .before .before .before .before .before .before .before .before .before .before .args .bytes .now) 4 16 16 refl (omega arith) refl)
-    (c .before .before .before .before .before .before .before .copy2 .ensures ∙ whole-part (replicate 12 0) (c .before .before .before .before .before .before .before .before .before .before .before .before .before .before .before .args .bytes .now) 20 12 12 refl (omega arith) refl)
-    (c .before .before .before .copy3 .ensures ∙ whole-part (replicate 16 0) (c .before .before .before .before .before .before .before .before .before .before .before .before .before .before .before .args .bytes .now) 32 16 16 refl (omega arith) refl)
+    let s = c .before .before .before .before .before .before .before .before .before .before .before .before .before .before .before .before .args .t1 in
+    keys-read s
+    (c .version-of .ensures ∙ first-four s (omega arith))
+    (c .before .before .before .before .before .before .before .before .before .before .before .before .copy .ensures ∙ whole-part (replicate 16 0) s 4 16 16 refl (omega arith) refl)
+    (c .before .before .before .before .before .before .before .copy2 .ensures ∙ whole-part (replicate 12 0) s 20 12 12 refl (omega arith) refl)
+    (c .before .before .copy3 .ensures ∙ whole-part (replicate 16 0) s 32 16 16 refl (omega arith) refl)
 
 pub load-keys-spec : {M : Type 1} → statement M
 load-keys-spec =
@@ -98,9 +96,9 @@ load-keys-spec =
     part-copy-start-3
     part-copy-end-3
     copy-requires-3
-    sub-load
-    part-load-start
-    part-load-end
-    load-requires
-    cast-t26
+    array-read-version-of
+    array-read-version-of-2
+    array-read-version-of-3
+    array-read-version-of-4
+    version-of-requires
     returns)
