@@ -1,9 +1,9 @@
 -- A key record in 48 bytes: laid down part by part, and read back.
-use Prim.Native.Nat.{ℕ, _^_, _<_, _≤_}
+use Prim.Native.Nat.{ℕ, _^_, _<_}
 use mathlib.Core.Path.{_≡_, refl, sym, ap, _∙_}
-use mathlib.Core.List.{List, [], _∷_, _++_, append-nil, append-assoc}
+use mathlib.Core.List.{List, [], _++_, append-nil, append-assoc}
 use native.Mathlib.Omega.{arith}
-use lib.ListN.{length, getD, length-append, drop-of-length-le}
+use lib.ListN.{length, length-append, drop-of-length-le}
 use lib.Seq.{take-at, drop-at}
 use Rattle.octets.specs.Octets.{bytes, number, part, laid}
 use Rattle.octets.proofs.Numbers.{bytes-length, number-back}
@@ -58,14 +58,6 @@ module _ (k : Keys) (fits : k .version < 2 ^ 32) (sized : Sized k) where
       let iv : part (v ++ k .key ++ k .iv ++ k .hp) 20 12 ≡ k .iv = between (v ++ k .key) (k .iv) (k .hp) 20 12 (before-iv k sized) (sized .of-iv) in
       let hp : part (v ++ k .key ++ k .iv ++ k .hp) 32 16 ≡ k .hp = rw (← (append-nil (v ++ k .key ++ k .iv ++ k .hp))) (between (v ++ k .key ++ k .iv) (k .hp) [] 32 16 (before-hp k sized) (sized .of-hp)) in
       rw (version, key, iv, hp, number-back 4 (k .version) fits)
-
--- a version's four bytes, read one by one
-pub first-four : (s : List ℕ) → 4 ≤ length s → number (getD s 0 0 ∷ getD s 1 0 ∷ getD s 2 0 ∷ getD s 3 0 ∷ []) ≡ number (part s 0 4)
-first-four [] l = omega arith
-first-four (a ∷ []) l = omega arith
-first-four (a ∷ b ∷ []) l = omega arith
-first-four (a ∷ b ∷ c ∷ []) l = omega arith
-first-four (a ∷ b ∷ c ∷ d ∷ s) l = refl
 
 -- a record whose parts were read from 48 bytes
 pub keys-read : (s : List ℕ) {v : ℕ} {key iv hp : List ℕ} → v ≡ number (part s 0 4) → key ≡ part s 4 16 → iv ≡ part s 20 12 → hp ≡ part s 32 16

@@ -4,8 +4,6 @@ use driftwicket::FullPn;
 use driftwicket::Keys;
 use driftwicket::Side;
 ghost use mathlib.Core.Path.{_≡_};
-ghost use mathlib.Core.List.{[], _∷_};
-ghost use Rattle.octets.specs.Octets.{number};
 ghost use Rattle.numbers.specs.Answers.{acknowledgedOf};
 ghost use Rattle.packets.specs.KeyRecord.{keysOf};
 ghost use Rattle.keys.specs.Answers.{sideOf};
@@ -31,13 +29,6 @@ pub fn side_by(server: u32) -> Side
     Side::Server
 }
 
-// A version, from its four bytes, the most significant first.
-fn version_of(a: u8, b: u8, c: u8, d: u8) -> u32
-    ensures { λ r. ⌜ r ≡ number (a ∷ b ∷ c ∷ d ∷ []) ⌝ }
-{
-    ((a as u32 * 256 + b as u32) * 256 + c as u32) * 256 + d as u32
-}
-
 // A key record, from its 48 bytes.
 pub fn load_keys(bytes: [u8; 48]) -> Keys
     ensures { λ r. ⌜ keysOf r ≡ keysIn bytes ⌝ }
@@ -49,7 +40,7 @@ pub fn load_keys(bytes: [u8; 48]) -> Keys
     let mut hp = [0u8; 16];
     octets::copy(&mut hp, 0, &bytes[32..48]);
     Keys {
-        version: version_of(bytes[0], bytes[1], bytes[2], bytes[3]),
+        version: octets::word(&bytes, 0),
         key,
         iv,
         hp,

@@ -1,14 +1,10 @@
--- Words: a rotation by two shifts, at every distance; the word that four bytes of a list spell.
-use Prim.Native.Nat.{ℕ, suc, _+_, _-_, _*_, _/_, _%_, _^_, _≤_, _<_}
-use mathlib.Core.List.{List}
+-- Words: a rotation by two shifts, at every distance.
+use Prim.Native.Nat.{ℕ, _+_, _-_, _*_, _/_, _%_, _^_, _<_}
 use mathlib.Core.Path.{_≡_, ap, _∙_}
 use native.Mathlib.Nat.{add-zero, mul-mod-left}
 use native.Mathlib.Omega.{arith}
 use lib.Bits.{bitOr, or-shifted-r}
-use lib.ListN.{length, getD}
 use lib.Pow.{mod-pow-add, shl-shr, shr-lt}
-use lib.Seq.{drop-cons}
-use Rattle.octets.specs.Octets.{number, part}
 use Rattle.sha256.specs.Sha256.{ROTR}
 
 -- what a left shift by k keeps of a word of n + k bits is its low n bits
@@ -23,20 +19,3 @@ rotation n x l h =
     let right : 32 ≡ k + n = omega arith in
     let low : x / 2 ^ n < 2 ^ k = shr-lt k n (rw (ap (λ (w : ℕ). 2 ^ w) right) at h) in
     ap (λ (w : ℕ). bitOr (x / 2 ^ n) (x * 2 ^ k % 2 ^ w)) left ∙ ap (bitOr (x / 2 ^ n)) (shift-keeps x n k) ∙ or-shifted-r (x % 2 ^ n) k (x / 2 ^ n) low
-
-pub four-bytes : (s : List ℕ) (at : ℕ) → at + 4 ≤ length s
-    → getD s at 0 * 0x1000000 + getD s (at + 1) 0 * 0x10000 + getD s (at + 2) 0 * 0x100 + getD s (at + 3) 0 ≡ number (part s at 4)
-unfolding number
-four-bytes s at h =
-    let one : at + 1 ≡ suc at = omega arith in
-    let two : at + 2 ≡ suc (suc at) = omega arith in
-    let three : at + 3 ≡ suc (suc (suc at)) = omega arith in
-    rw (
-      one,
-      two,
-      three,
-      drop-cons s at 0 (omega arith),
-      drop-cons s (suc at) 0 (omega arith),
-      drop-cons s (suc (suc at)) 0 (omega arith),
-      drop-cons s (suc (suc (suc at))) 0 (omega arith),
-    ) (omega arith)

@@ -108,17 +108,6 @@ pub fn initial() -> [u32; 8]
     INITIAL
 }
 
-// Section 3.1: the word that four bytes spell, the most significant first.
-fn word(block: &[u8], at: usize) -> u32
-    requires { ⌜ at + 4 ≤ length (now block) ⌝ }
-    ensures { λ r. ⌜ r ≡ number (part (now (block .entry)) at 4) ⌝ }
-{
-    (block[at] as u32) * 0x0100_0000
-        + (block[at + 1] as u32) * 0x0001_0000
-        + (block[at + 2] as u32) * 0x0100
-        + block[at + 3] as u32
-}
-
 // Section 5.2.1: the sixteen words of a block.
 fn parse(block: &[u8]) -> [u32; 16]
     requires { ⌜ length (now block) ≡ 64 ⌝ }
@@ -127,7 +116,7 @@ fn parse(block: &[u8]) -> [u32; 16]
     let mut m = [0u32; 16];
     let mut i: usize = 0;
     while i < 16 {
-        m[i] = word(block, 4 * i);
+        m[i] = octets::word(block, 4 * i);
         i += 1;
     }
     m

@@ -9,8 +9,6 @@ use borrow.Author.Tests.{le-leb, lt-leb, leb-true}
 use Rattle.octets.specs.Outcome.{refused, given, _>>_}
 use Rattle.octets.specs.Octets.{Bytes, number, part}
 use Rattle.octets.proofs.Parts.{part-length}
-use Rattle.octets.proofs.Bytes.{part-bytes}
-use Rattle.octets.proofs.Numbers.{number-lt}
 use Rattle.octets.proofs.Outcome.{passed, stepped, given-same}
 use Rattle.numbers.specs.Integer.{Integer, integer}
 use Rattle.wire.specs.Header.{Place, behind, whole, longestId, leastLength, idAt, integerAt, fieldAt, restAt}
@@ -28,11 +26,6 @@ integer-taken s is =
     let all = passed 3 (leb (2 ^ (getD s 0 0 / 64)) (length s)) _ (some .1) in
     let same = ap (λ (i : Integer). i .taken) (given-same (all .1)) in
     omega (arith, leb-true (2 ^ (getD s 0 0 / 64)) (length s) (all .0))
-
--- what four bytes spell fits a word of 32 bits
-pub four-bytes : (d : List ℕ) (at : ℕ) → Bytes d → at + 4 ≤ length d → number (part d at 4) < 2 ^ 32
-four-bytes d at h fits =
-    rw (part-length d at 4 fits) at (number-lt (part d at 4) (part-bytes d at 4 h))
 
 -- as many bytes as were asked for stood at the place that was given
 whole-given : (d : List ℕ) (q : Place) {p : Place} → (whole d (q .at) (q .len) >> given q) ≡ given p → (q ≡ p) × (behind q ≤ length d)

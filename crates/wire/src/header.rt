@@ -184,7 +184,7 @@ fn read_version(datagram: &[u8]) -> Version
     if datagram.len() < 5 {
         return Version::Refused(refusal::NOT_WHOLE);
     }
-    Version::Of(octets::load(&datagram[1..5]) as u32)
+    Version::Of(octets::word(datagram, 1))
 }
 
 // The version, where it is wanted, and the type is that version's.

@@ -2,9 +2,9 @@
 use Prim.Native.Nat.{_+_}
 use borrow.Author.Needs.{needs}
 use native.Mathlib.Omega.{arith}
-use Rattle.sha256.proofs.Words.{four-bytes}
-use Rattle.sha256.proofs.word.Statement.{statement}
-use Rattle.sha256.proofs.word.Tie as tie
+use Rattle.octets.proofs.Numbers.{four-bytes}
+use Rattle.octets.proofs.word.Statement.{statement}
+use Rattle.octets.proofs.word.Tie as tie
 
 shared-slice-read-result : tie.Need-shared-slice-read-result
 shared-slice-read-result c = search needs
@@ -60,7 +60,7 @@ add-result-6 c = omega (arith, c .before .before .before .shared-slice-known .gi
 returns : tie.Need-returns
 returns c =
     let a = c .before .before .before .before in
-    four-bytes (a .args .block .now) (a .args .at) (a .pre)
+    four-bytes (a .args .source .now) (a .args .at) (a .pre)
 
 pub word-spec : {M : Type 1} → statement M
 word-spec =
