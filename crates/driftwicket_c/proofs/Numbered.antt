@@ -18,7 +18,9 @@ use Rattle.packets.specs.Suite.{Suite}
 use Rattle.packets.specs.Protection.{Keys, nonce, onFirst, onNumber}
 use Rattle.packets.specs.Packet.{maskOf, packetOf, sealed, unprotected, opened}
 use Rattle.keys.specs.InitialKeys.{Side, initialKeys}
-use Rattle.retry.specs.Retry.{untagged, retryTag, tagged, retryWritten, tokenAt, retryChecked}
+use Rattle.retry_tag.specs.Tag.{retryTag, tagged}
+use Rattle.retry_writing.specs.Written.{untagged, retryWritten}
+use Rattle.retry_checking.specs.Retry.{tokenAt, retryChecked}
 use Rattle.driftwicket_c.specs.Promises.{Answers}
 
 pub record Numbered {A : Type 0} (o : Outcome A) : Type 0 where

@@ -14,7 +14,8 @@ use Rattle.packets.specs.Packet.{Opened, sealed, opened}
 use Rattle.packets.specs.Effects.{output, after}
 use Rattle.packets.specs.AesGcm.{aesGcm}
 use Rattle.keys.specs.InitialKeys.{initialKeys}
-use Rattle.retry.specs.Retry.{RetryFields, retryWritten, retryChecked}
+use Rattle.retry_writing.specs.Written.{retryWritten}
+use Rattle.retry_checking.specs.Retry.{RetryFields, retryChecked}
 use Rattle.driftwicket_c.specs.Arguments.{acknowledgedBy, sideBy, keyBytes, keysIn}
 
 -- ---- every function

@@ -41,7 +41,7 @@ pub fn crypt(schedule: &[u8; 176], nonce: &[u8; 12], source: &[u8], buffer: &mut
     requires { ⌜ at + length (now source) ≤ length (now buffer) ⌝ }
     ensures { λ _. ⌜ now (buffer .exit) ≡ laid (now (buffer .entry)) at (streamBy (now (schedule .entry)) (now (nonce .entry)) (now (source .entry))) ⌝ }
 {
-    let table = aes128::s_box::table();
+    let table = aes_s_box::table();
     let mut block = inc32(j0(nonce));
     let mut i: usize = 0;
     while i < source.len() {

@@ -6,7 +6,7 @@ ghost use mathlib.Core.Path.{_≡_};
 ghost use Prim.Native.Nat.{_/_};
 ghost use lib.ListN.{length};
 ghost use Rattle.octets.specs.Octets.{bytes, number, placed};
-ghost use Rattle.aes128.specs.Expansion.{expansion};
+ghost use Rattle.aes_schedule.specs.Expansion.{expansion};
 ghost use Rattle.gcm.specs.Hash.{ghash};
 ghost use Rattle.measured.specs.Measured.{enciphered, sealing, answer};
 
@@ -18,7 +18,7 @@ const MOST: usize = 65536;
 pub extern "C" fn dw_measure_expand_key(key: &[u8; 16], schedule: &mut [u8; 176])
     ensures { λ _. ⌜ now (schedule .exit) ≡ expansion (now (key .entry)) ⌝ }
 {
-    *schedule = aes128::expand_key(key);
+    *schedule = aes_schedule::expand_key(key);
 }
 
 // Every whole block of a buffer, enciphered where it stands.
@@ -26,7 +26,7 @@ pub extern "C" fn dw_measure_expand_key(key: &[u8; 16], schedule: &mut [u8; 176]
 pub extern "C" fn dw_measure_blocks(schedule: &[u8; 176], buffer: &mut [u8])
     ensures { λ _. ⌜ now (buffer .exit) ≡ enciphered (now (schedule .entry)) (length (now (buffer .entry)) / 16) (now (buffer .entry)) ⌝ }
 {
-    let table = aes128::s_box::table();
+    let table = aes_s_box::table();
     let mut at: usize = 0;
     while 16 <= buffer.len() - at {
         let mut block = [0u8; 16];

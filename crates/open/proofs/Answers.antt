@@ -6,7 +6,7 @@ use mathlib.Core.List.{List, _++_}
 use lib.ListN.{length}
 use Rattle.octets.specs.Outcome.{refused, given}
 use Rattle.octets.specs.Octets.{begun}
-use Rattle.aes128.specs.Expansion.{expansion}
+use Rattle.aes_schedule.specs.Expansion.{expansion}
 use Rattle.gcm.specs.Gcm.{stream, streamBy, tag}
 use Rattle.gcm.proofs.Laws.{stream-length}
 use Rattle.packets.specs.Protection.{Keys, nonce}

@@ -208,7 +208,7 @@ pub fn open(keys: Keys, expected: &mut u64, datagram: &[u8], out: &mut [u8]) -> 
     let key = keys.key;
     let iv = keys.iv;
     let number = packet.number;
-    let schedule = aes128::expand_key(&key);
+    let schedule = aes_schedule::expand_key(&key);
     let nonce = packets::nonce_of(&iv, number.0);
     if !tag_matches(&schedule, &nonce, datagram, packet) {
         return Opening::Refused(refusal::TAG);

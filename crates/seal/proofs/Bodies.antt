@@ -6,7 +6,7 @@ use native.Mathlib.Omega.{arith}
 use lib.ListN.{length, take}
 use Rattle.octets.specs.Octets.{part, laid}
 use Rattle.octets.proofs.Buffers.{take-laid, part-laid, laid-more}
-use Rattle.aes128.specs.Expansion.{expansion}
+use Rattle.aes_schedule.specs.Expansion.{expansion}
 use Rattle.gcm.specs.Gcm.{stream, streamBy, tag, tagBy, hashKey}
 use Rattle.gcm.proofs.Laws.{stream-by-length}
 use Rattle.packets.specs.Packet.{bodyWith}

@@ -77,7 +77,7 @@ fn write_body(key: &[u8; 16], nonce: &[u8; 12], payload: &[u8], buffer: &mut [u8
     requires { ⌜ (at + length (now payload) + 16 ≤ length (now buffer)) × (at + length (now payload) ≤ limit) ⌝ }
     ensures { λ _. ⌜ now (buffer .exit) ≡ laid (now (buffer .entry)) at (bodyWith aesGcm (now (key .entry)) (now (nonce .entry)) (take at (now (buffer .entry))) (now (payload .entry))) ⌝ }
 {
-    let schedule = aes128::expand_key(key);
+    let schedule = aes_schedule::expand_key(key);
     gcm::counter::crypt(&schedule, nonce, payload, buffer, at);
     let end = at + payload.len();
     let tag = tag_over(&schedule, nonce, buffer, at, end);

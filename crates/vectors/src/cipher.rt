@@ -6,7 +6,7 @@ use terminal::decode;
 fn schedule(key: &[u8]) -> [u8; 176] {
     let mut bytes = [0u8; 16];
     decode(key, &mut bytes);
-    aes128::expand_key(&bytes)
+    aes_schedule::expand_key(&bytes)
 }
 
 // A block in 32 digits, encrypted.
@@ -35,7 +35,7 @@ fn expansion(label: &[u8], key: &[u8]) {
 }
 
 fn s_box(label: &[u8]) {
-    let table = aes128::s_box::table();
+    let table = aes_s_box::table();
     line(label, &table);
 }
 

@@ -14,7 +14,7 @@ fn seal(
 ) -> [u8; 16]
     requires { ⌜ (length (now associated) ≤ 1200) × (length (now plain) ≤ 1200) × (length (now plain) ≤ length (now buffer)) ⌝ }
 {
-    let schedule = aes128::expand_key(key);
+    let schedule = aes_schedule::expand_key(key);
     gcm::counter::crypt(&schedule, nonce, plain, buffer, 0);
     let h = gcm::tag::hash_key(&schedule);
     let end = associated.len();

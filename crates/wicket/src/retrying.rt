@@ -2,12 +2,12 @@
 use crate::answers;
 use crate::fields;
 use crate::sealing::written;
-use retry::Checking;
-use retry::RetryFields;
-use retry::Writing;
-use retry::retry_destination;
-use retry::retry_source;
-use retry::retry_token;
+use retry_checking::Checking;
+use retry_checking::RetryFields;
+use retry_checking::Writing;
+use retry_checking::retry_destination;
+use retry_checking::retry_source;
+use retry_checking::retry_token;
 
 // wicket retry VERSION ORIGINAL DESTINATION SOURCE TOKEN LOW-BITS
 pub fn retry(line: &[u8]) {
@@ -20,7 +20,7 @@ pub fn retry(line: &[u8]) {
     let mut token = io::buffer();
     let token_length = fields::bytes(line, 5, &mut token);
     let mut out = io::buffer();
-    match retry::write_retry(
+    match retry_checking::write_retry(
         fields::version(line, 1),
         &original[..original_length],
         &destination[..destination_length],
@@ -55,7 +55,7 @@ pub fn check_retry(line: &[u8]) {
     let count = fields::bytes(line, 1, &mut original);
     let mut datagram = io::buffer();
     let length = fields::bytes(line, 2, &mut datagram);
-    match retry::check_retry(&original[..count], &datagram[..length]) {
+    match retry_checking::check_retry(&original[..count], &datagram[..length]) {
         Checking::Refused(why) => answers::refused(why),
         Checking::Checked(found) => checked(found, &original[..count], &datagram[..length]),
     }

@@ -1,7 +1,7 @@
 -- A refusal is told by its number alone, and what is given by its numbers.
 use mathlib.Core.Path.{sym, ap, _∙_}
 use borrow.Author.Needs.{needs}
-use Rattle.retry.specs.Answers.{checkingAnswer}
+use Rattle.retry_checking.specs.Answers.{checkingAnswer}
 use Rattle.driftwicket_c.proofs.Answering.{refusing, giving}
 use Rattle.driftwicket_c.proofs.dw_check_retry.Statement.{statement}
 use Rattle.driftwicket_c.proofs.dw_check_retry.Tie as tie

@@ -1,7 +1,7 @@
 -- A refusal is told by its number alone, and a packet by its length.
 use mathlib.Core.Path.{sym, ap, _∙_}
 use borrow.Author.Needs.{needs}
-use Rattle.retry.specs.Answers.{writingAnswer}
+use Rattle.retry_writing.specs.Answers.{writingAnswer}
 use Rattle.driftwicket_c.proofs.Answering.{refusing, giving, writing}
 use Rattle.driftwicket_c.proofs.dw_write_retry.Statement.{statement}
 use Rattle.driftwicket_c.proofs.dw_write_retry.Tie as tie

@@ -1,0 +1,38 @@
+-- 16 bytes of the 176, from 16 times the round on.
+use Prim.Native.Nat.{ℕ, _+_, _-_, _*_}
+use mathlib.Core.Path.{_≡_, ap, _∙_}
+use borrow.Author.Needs.{needs}
+use native.Mathlib.Omega.{arith}
+use Rattle.octets.specs.Octets.{part}
+use Rattle.aes_state.specs.State.{input}
+use Rattle.aes128.proofs.round_key.Statement.{statement}
+use Rattle.aes128.proofs.round_key.Tie as tie
+
+mul-at : tie.Need-mul-at
+mul-at c = search needs
+
+add-input : tie.Need-add-input
+add-input c = search needs
+
+sub-input : tie.Need-sub-input
+sub-input c = search needs
+
+part-input-start : tie.Need-part-input-start
+part-input-start c = search needs
+
+part-input-end : tie.Need-part-input-end
+part-input-end c = search needs
+
+input-requires : tie.Need-input-requires
+input-requires c κs = search needs
+
+returns : tie.Need-returns
+returns c =
+    let a = c .before .before .before .args in
+    let size : 16 * a .round + 16 - 16 * a .round ≡ 16 = omega arith in
+    c .input .ensures ∙ ap (λ (n : ℕ). input (part (a .w .now) (16 * a .round) n)) size
+
+pub round-key-spec : {M : Type 1} → statement M
+round-key-spec =
+    tie.close
+    (tie.spec mul-at add-input sub-input part-input-start part-input-end input-requires returns)

@@ -1,0 +1,2 @@
+pub mod SBox
+pub mod Bytes

@@ -1,0 +1,3 @@
+pub mod Powers
+pub mod Growth
+pub mod Laws

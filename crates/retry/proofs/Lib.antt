@@ -1,5 +1,0 @@
-pub mod Packets
-pub mod Refusals
-pub mod Promises
-pub mod WrittenBack
-pub mod OneAnswer

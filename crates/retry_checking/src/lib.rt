@@ -1,0 +1,119 @@
+// Retry packets, checked: RFC 9000 section 17.2.5 and RFC 9001 section 5.8.
+use octets::refusal;
+use retry_tag::tag_of;
+pub use retry_writing::Writing;
+pub use retry_writing::write_retry;
+use wire::header::Found;
+use wire::header::Kind;
+use wire::header::LONGEST_ID;
+use wire::header::LongReading;
+use wire::header::Place;
+use wire::header::TAG_LENGTH;
+use wire::header::Wanted;
+use wire::header::part_at;
+use wire::header::read_long;
+ghost use mathlib.Core.Path.{_≡_};
+ghost use Prim.Native.Nat.{_≤_};
+ghost use lib.ListN.{length};
+ghost use Rattle.wire.specs.HeaderAnswers.{foundAnswer};
+ghost use Rattle.retry_checking.specs.Retry.{tokenAt};
+ghost use Rattle.retry_checking.specs.Answers.{CheckRetry, RetryDestination, RetrySource, RetryToken};
+
+// The version of a Retry that was checked, and where its parts stand.
+pub struct RetryFields {
+    pub version: u32,
+    pub destination: Place,
+    pub source: Place,
+    pub token: Place,
+}
+
+// What checking answers: a refusal's number, or the fields.
+pub enum Checking {
+    Refused(u8),
+    Checked(RetryFields),
+}
+
+// The token: all between a place and the tag that ends the datagram.
+fn token_at(datagram: &[u8], at: usize) -> Found
+    requires { ⌜ at ≤ length (now datagram) ⌝ }
+    ensures { λ r. ⌜ foundAnswer r ≡ tokenAt (now (datagram .entry)) at ⌝ }
+{
+    let behind = datagram.len() - at;
+    if behind < TAG_LENGTH {
+        return Found::Refused(refusal::NOT_WHOLE);
+    }
+    let len = behind - TAG_LENGTH;
+    if len < 1 {
+        return Found::Refused(refusal::NO_TOKEN);
+    }
+    Found::At(Place { at, len })
+}
+
+// RFC 9001 section 5.8: a Retry that answers the original connection ID, its tag compared.
+pub fn check_retry(original: &[u8], datagram: &[u8]) -> Checking
+    ensures { λ r. ⌜ CheckRetry (now (original .entry)) (now (datagram .entry)) r ⌝ }
+{
+    if LONGEST_ID < original.len() {
+        return Checking::Refused(refusal::LONG_ID);
+    }
+    let long = match read_long(datagram, Wanted::Known, Kind::Retry) {
+        LongReading::Refused(why) => return Checking::Refused(why),
+        LongReading::Read(long) => long,
+    };
+    let destination = long.destination;
+    let source = long.source;
+    let token = match token_at(datagram, source.at + source.len) {
+        Found::Refused(why) => return Checking::Refused(why),
+        Found::At(place) => place,
+    };
+    let tag_at = token.at + token.len;
+    let tag = tag_of(long.version, original, &datagram[..tag_at]);
+    if !gcm::tag::same_tag(&datagram[tag_at..], &tag) {
+        return Checking::Refused(refusal::TAG);
+    }
+    Checking::Checked(RetryFields {
+        version: long.version,
+        destination,
+        source,
+        token,
+    })
+}
+
+// The destination ID of a Retry that is accepted, and nothing where checking refuses.
+pub fn retry_destination<'a>(original: &[u8], datagram: &'a [u8]) -> &'a [u8]
+    ensures { λ r. ⌜ RetryDestination (now (original .entry)) (now (datagram .entry)) (now r) ⌝ }
+{
+    match check_retry(original, datagram) {
+        Checking::Refused(_) => &datagram[..0],
+        Checking::Checked(fields) => {
+            let place = fields.destination;
+            part_at(datagram, place)
+        }
+    }
+}
+
+// The source ID of a Retry that is accepted, and nothing where checking refuses.
+pub fn retry_source<'a>(original: &[u8], datagram: &'a [u8]) -> &'a [u8]
+    ensures { λ r. ⌜ RetrySource (now (original .entry)) (now (datagram .entry)) (now r) ⌝ }
+{
+    match check_retry(original, datagram) {
+        Checking::Refused(_) => &datagram[..0],
+        Checking::Checked(fields) => {
+            let place = fields.source;
+            part_at(datagram, place)
+        }
+    }
+}
+
+// The token of a Retry that is accepted, and nothing where checking refuses.
+pub fn retry_token<'a>(original: &[u8], datagram: &'a [u8]) -> &'a [u8]
+    ensures { λ r. ⌜ RetryToken (now (original .entry)) (now (datagram .entry)) (now r) ⌝ }
+{
+    match check_retry(original, datagram) {
+        Checking::Refused(_) => &datagram[..0],
+        Checking::Checked(fields) => {
+            let place = fields.token;
+            part_at(datagram, place)
+        }
+    }
+}

@@ -1,0 +1,4 @@
+pub mod Packets
+pub mod Refusals
+pub mod Promises
+pub mod OneAnswer
