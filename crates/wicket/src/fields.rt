@@ -1,10 +1,10 @@
 // The words of a call: each is judged by the name that the manual gives it, and then read.
+use digits_numbers::Number;
+use digits_numbers::read_number;
+use digits_reading::digits;
 use keys::Side;
 use numbers::packet::Acknowledged;
 use numbers::packet::FullPn;
-use terminal::digits::Number;
-use terminal::digits::digits;
-use terminal::digits::read_number;
 use terminal::words::same;
 use terminal::words::word;
 ghost use Rattle.io.specs.Counts.{Counts};
@@ -157,5 +157,5 @@ pub fn acknowledged(line: &[u8], index: usize) -> Acknowledged {
 pub fn bytes(line: &[u8], index: usize, buffer: &mut [u8]) -> usize
     ensures { λ r. ⌜ Counts r (now (buffer .exit)) ⌝ }
 {
-    terminal::decode(word(line, index, END), buffer)
+    digits_reading::decode(word(line, index, END), buffer)
 }

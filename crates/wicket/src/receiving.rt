@@ -47,7 +47,7 @@ fn opened(found: Opened, buffer: &[u8], length: usize) {
 // One datagram comes: a row of the answer.
 fn arrive(keys: Keys, expected: &mut u64, text: &[u8], tally: Tally) -> Tally {
     let mut datagram = io::buffer();
-    let length = terminal::decode(text, &mut datagram);
+    let length = digits_reading::decode(text, &mut datagram);
     let mut out = io::buffer();
     match open::open(keys, expected, &datagram[..length], &mut out) {
         Opening::Refused(why) => {
