@@ -14,7 +14,7 @@ const ARCHIVE: &str = "libdriftwicket.a";
 const DIRECTORY: &str = "DRIFTWICKET_LIB_DIR";
 
 /// What `make lib` makes the archive from, in the repository's root.
-const SOURCES: [&str; 4] = ["Makefile", "crates", "crates.txt", "tools/library"];
+const SOURCES: [&str; 5] = ["Makefile", "crates", "crates.txt", "kit.txt", "tools/library"];
 
 fn main() -> ExitCode {
     match link() {
@@ -79,7 +79,7 @@ fn made(root: &Path) -> Result<PathBuf, Box<dyn Error>> {
         let [said, errors] = [run.stdout, run.stderr].map(|bytes| String::from_utf8_lossy(&bytes).into_owned());
         return Err(format!("`make lib` failed in {}:\n{said}{errors}", root.display()).into());
     }
-    Ok(root.join("target/staticlib").join(ARCHIVE))
+    Ok(root.join("build").join(ARCHIVE))
 }
 
 /// Whether a program can be called by its name.

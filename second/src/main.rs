@@ -8,7 +8,7 @@
 //!     cargo run --release -- 1 --seed 12345         others
 //!     cargo test --lib                              the public vectors, by the second program alone
 //!
-//! DRIFTWICKET_LIB_DIR names the directory of the static library where it isn't ../target/staticlib.
+//! DRIFTWICKET_LIB_DIR names the directory of the static library where it isn't ../build.
 //! One comparison is one call. The case of a difference is printed with its inputs as hex. The last line is
 //! 'N passed, M failed', and the exit status is 1 where anything failed.
 
