@@ -70,7 +70,7 @@ fn compare_entry(entry: &Entry, options: &Options) -> Tally {
     }
     let seconds = start.elapsed().as_secs_f64();
     println!("  {:>9} in {seconds:.1} s: {}", tally.count(), tally.summary());
-    for number in tally.not_reached(entry) {
+    for number in tally.not_reached(entry.refusals) {
         println!("  NOT REACHED: no call was answered {number}, so nothing is shown of it");
         tally.failed += 1;
     }
