@@ -9,7 +9,7 @@ use borrow.Author.Tests.{le-leb, lt-leb, leb-true}
 use Rattle.octets.specs.Outcome.{Outcome, refused, given, _>>_}
 use Rattle.octets.specs.Octets.{part}
 use Rattle.octets.proofs.Outcome.{passed, stepped, given-same}
-use Rattle.numbers.specs.Integer.{Integer, integer}
+use Rattle.integers.specs.Integer.{Integer, integer}
 use Rattle.header_fields.specs.Fields.{Place, behind, whole, longestId, leastLength, idAt, integerAt, fieldAt, restAt}
 use Rattle.header_fields.specs.Answers.{handed}
 

@@ -4,7 +4,7 @@ use mathlib.Core.List.{List}
 use lib.Dec.{leb}
 use lib.ListN.{length, getD, drop}
 use Rattle.octets.specs.Outcome.{Outcome, given, unless, _>>=_, _>>_}
-use Rattle.numbers.specs.Integer.{integer}
+use Rattle.integers.specs.Integer.{integer}
 
 -- the longest connection ID
 abbrev pub longestId : ℕ

@@ -1,6 +1,6 @@
 // RFC 9000 sections 16 and 17.2: where a field of a long header stands, in document 01's order of refusals.
-use numbers::integer::Integer;
-use numbers::integer::read_integer;
+use integers::Integer;
+use integers::read_integer;
 use octets::refusal;
 ghost use mathlib.Core.Path.{_≡_};
 ghost use Prim.Native.Nat.{_+_, _≤_};

@@ -10,7 +10,7 @@ use Rattle.octets.specs.Octets.{bytes, number, part}
 use Rattle.octets.proofs.Parts.{regroup}
 use Rattle.octets.proofs.Numbers.{bytes-length, number-back}
 use Rattle.versions.specs.Versions.{Version, known, version}
-use Rattle.numbers.specs.Integer.{integer}
+use Rattle.integers.specs.Integer.{integer}
 use Rattle.header_long.specs.LongHeader.{Long, limit, versionOf, long}
 use Rattle.header_initial.specs.InitialHeader.{Header, header}
 use Rattle.header_fields.specs.Fields.{longestId, leastLength, idAt, fieldAt, restAt}

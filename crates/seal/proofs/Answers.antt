@@ -9,7 +9,7 @@ use Rattle.octets.specs.Outcome.{refused, given}
 use Rattle.octets.specs.Octets.{begun}
 use Rattle.octets.proofs.Buffers.{refused-placed, given-placed}
 use Rattle.versions.specs.Versions.{known}
-use Rattle.numbers.specs.Numbers.{Acknowledged, shortened}
+use Rattle.numbers_shortening.specs.Shortening.{Acknowledged, shortened}
 use Rattle.header_long.specs.LongHeader.{limit}
 use Rattle.header_fields.specs.Fields.{longestId}
 use Rattle.header_writing.specs.Written.{Plain}

@@ -4,7 +4,7 @@ use borrow.Author.Needs.{needs}
 use borrow.Author.Tests.{not-true, not-false}
 use native.Mathlib.Omega.{arith}
 use lib.Dec.{eqb}
-use Rattle.numbers.specs.Answers.{recoveredAnswer}
+use Rattle.numbers_recovery.specs.Answers.{recoveredAnswer}
 use Rattle.header_initial.specs.Answers.{readingAnswer}
 use Rattle.header_initial.proofs.InitialHeaders.{header-there}
 use Rattle.packets.specs.KeyRecord.{keysOf}
