@@ -5,8 +5,9 @@ use mathlib.Core.List.{List, [], _∷_}
 use lib.ListN.{length}
 use Rattle.octets.specs.Outcome.{Outcome, refused, given}
 use Rattle.octets.specs.Octets.{placed}
-use Rattle.numbers.specs.Integer.{integer}
-use Rattle.numbers.specs.Numbers.{smallestLength, shortened, recovered}
+use Rattle.integers.specs.Integer.{integer}
+use Rattle.numbers_shortening.specs.Shortening.{smallestLength, shortened}
+use Rattle.numbers_recovery.specs.Recovery.{recovered}
 use Rattle.wire.specs.Header.{Header}
 use Rattle.wire.specs.HeaderAnswers.{anyHeader}
 use Rattle.writing.specs.Written.{Plain}

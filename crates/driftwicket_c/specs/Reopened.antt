@@ -4,7 +4,8 @@ use mathlib.Core.Path.{_≡_}
 use mathlib.Core.List.{List, [], _∷_, _++_}
 use lib.ListN.{length, take}
 use Rattle.octets.specs.Octets.{begun}
-use Rattle.numbers.specs.Numbers.{numbers, Near}
+use Rattle.numbers.specs.Numbers.{numbers}
+use Rattle.numbers_recovery.specs.Recovery.{Near}
 use Rattle.wire.specs.Header.{limit, tagLength}
 use Rattle.writing.specs.Written.{Plain, plainHeader}
 use Rattle.driftwicket_c.specs.Arguments.{keysIn}

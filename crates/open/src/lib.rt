@@ -1,9 +1,9 @@
 // Opening: RFC 9001 section 5, as document 01 has it read.
-use numbers::packet::FullPn;
-use numbers::packet::NUMBERS;
-use numbers::packet::Recovered;
-use numbers::packet::TruncatedPn;
-use numbers::packet::recover;
+use numbers::FullPn;
+use numbers::NUMBERS;
+use numbers::TruncatedPn;
+use numbers_recovery::Recovered;
+use numbers_recovery::recover;
 use octets::refusal;
 use packets::Keys;
 use wire::header::Reading;

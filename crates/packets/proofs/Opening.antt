@@ -14,10 +14,11 @@ use Rattle.octets.proofs.Outcome.{apart, given-same}
 use Rattle.octets.proofs.Parts.{part-length, part-taken}
 use Rattle.octets.proofs.Bytes.{part-bytes, drop-bytes, xor-bytes}
 use Rattle.octets.proofs.Numbers.{number-below}
-use Rattle.numbers.specs.Numbers.{numbers, window, decoded, recovered}
+use Rattle.numbers.specs.Numbers.{numbers, window}
+use Rattle.numbers_recovery.specs.Recovery.{decoded, recovered}
 use Rattle.wire.specs.Versions.{known}
 use Rattle.wire.specs.Header.{Header, header, leastLength, tagLength}
-use Rattle.numbers.proofs.Recovery.{recover-range, recover-given}
+use Rattle.numbers_recovery.proofs.Recovery.{recover-range, recover-given}
 use Rattle.wire.proofs.Headers.{header-there}
 use Rattle.packets.specs.Suite.{Suite}
 use Rattle.packets.specs.Protection.{Keys, nonce, onFirst, onNumber, sampleOf}

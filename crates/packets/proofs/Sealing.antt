@@ -13,7 +13,8 @@ use Rattle.octets.proofs.Outcome.{passed, stepped, both, given-same}
 use Rattle.octets.proofs.Numbers.{bytes-length}
 use Rattle.octets.proofs.Xor.{xor-length}
 use Rattle.wire.specs.Versions.{known}
-use Rattle.numbers.specs.Numbers.{Acknowledged, numbers, ahead, gap, shortened}
+use Rattle.numbers_shortening.specs.Shortening.{Acknowledged, ahead, gap, shortened}
+use Rattle.numbers.specs.Numbers.{numbers}
 use Rattle.wire.specs.Header.{limit, longestId}
 use Rattle.writing.specs.Written.{Plain, two, smallest, longFields, initialFields, firstByte, lengthOf, fields, front, plainHeader}
 use Rattle.writing.proofs.Forms.{two-bytes, long-length}

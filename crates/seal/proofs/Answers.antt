@@ -9,7 +9,7 @@ use Rattle.octets.specs.Outcome.{refused, given}
 use Rattle.octets.specs.Octets.{begun}
 use Rattle.octets.proofs.Buffers.{refused-placed, given-placed}
 use Rattle.wire.specs.Versions.{known}
-use Rattle.numbers.specs.Numbers.{Acknowledged, shortened}
+use Rattle.numbers_shortening.specs.Shortening.{Acknowledged, shortened}
 use Rattle.wire.specs.Header.{limit, longestId}
 use Rattle.writing.specs.Written.{Plain}
 use Rattle.packets.specs.Protection.{Keys}

@@ -5,7 +5,7 @@ use mathlib.Core.List.{List}
 use lib.ListN.{length}
 use Rattle.octets.specs.Outcome.{Outcome, refused, given}
 use Rattle.octets.specs.Octets.{begun, placed, lengthGiven}
-use Rattle.numbers.specs.Numbers.{Acknowledged}
+use Rattle.numbers_shortening.specs.Shortening.{Acknowledged}
 use Rattle.wire.specs.Header.{limit, longestId}
 use Rattle.writing.specs.Written.{Plain, smallest, lengthOf, front, plainHeader}
 use Rattle.packets.specs.Protection.{Keys}

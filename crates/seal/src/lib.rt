@@ -1,8 +1,8 @@
 // Sealing: RFC 9001 section 5, as document 01 has it written.
-use numbers::packet::Acknowledged;
-use numbers::packet::FullPn;
-use numbers::packet::Shortened;
-use numbers::packet::shorten;
+use numbers::FullPn;
+use numbers_shortening::Acknowledged;
+use numbers_shortening::Shortened;
+use numbers_shortening::shorten;
 use octets::refusal;
 use packets::Keys;
 use wire::header::LIMIT;
@@ -15,7 +15,7 @@ ghost use Rattle.octets.specs.Octets.{begun, laid, part};
 ghost use Rattle.gcm.specs.Gcm.{tagBy, hashKey};
 ghost use Rattle.wire.specs.Header.{limit};
 ghost use Rattle.writing.specs.Written.{smallest};
-ghost use Rattle.numbers.specs.Answers.{acknowledgedOf};
+ghost use Rattle.numbers_shortening.specs.Answers.{acknowledgedOf};
 ghost use Rattle.packets.specs.KeyRecord.{keysOf};
 ghost use Rattle.packets.specs.Protection.{masked};
 ghost use Rattle.packets.specs.Packet.{bodyWith, packetOf};

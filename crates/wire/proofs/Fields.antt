@@ -10,7 +10,7 @@ use Rattle.octets.specs.Outcome.{refused, given, _>>_}
 use Rattle.octets.specs.Octets.{Bytes, number, part}
 use Rattle.octets.proofs.Parts.{part-length}
 use Rattle.octets.proofs.Outcome.{passed, stepped, given-same}
-use Rattle.numbers.specs.Integer.{Integer, integer}
+use Rattle.integers.specs.Integer.{Integer, integer}
 use Rattle.wire.specs.Header.{Place, behind, whole, longestId, leastLength, idAt, integerAt, fieldAt, restAt}
 
 -- a field that was looked for from a place on stands behind that place, and all of it within the datagram

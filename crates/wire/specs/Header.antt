@@ -6,7 +6,7 @@ use lib.Dec.{leb, eqb}
 use lib.ListN.{length, getD, drop}
 use Rattle.octets.specs.Outcome.{Outcome, given, unless, _>>=_, _>>_}
 use Rattle.octets.specs.Octets.{number, part}
-use Rattle.numbers.specs.Integer.{integer}
+use Rattle.integers.specs.Integer.{integer}
 use Rattle.wire.specs.Versions.{Version, known, version}
 
 -- the largest datagram, and the longest connection ID

@@ -2,8 +2,8 @@
 use crate::version::initial_type;
 use crate::version::is_known;
 use crate::version::retry_type;
-use numbers::integer::Integer;
-use numbers::integer::read_integer;
+use integers::Integer;
+use integers::read_integer;
 use octets::refusal;
 ghost use mathlib.Core.Path.{_≡_};
 ghost use Prim.Native.Nat.{_+_, _≤_};

@@ -10,7 +10,7 @@ use Rattle.octets.specs.Octets.{bytes, number, part}
 use Rattle.octets.proofs.Parts.{regroup}
 use Rattle.octets.proofs.Numbers.{bytes-length, number-back}
 use Rattle.wire.specs.Versions.{Version, known, version}
-use Rattle.numbers.specs.Integer.{integer}
+use Rattle.integers.specs.Integer.{integer}
 use Rattle.wire.specs.Header.{Long, Header, limit, longestId, leastLength, idAt, fieldAt, restAt, versionOf, long, header}
 use Rattle.writing.specs.Written.{Plain, two, smallest, longFirst, withLength, longFields, lengthOf, initialFields, fields}
 use Rattle.wire.proofs.Versions.{version-fits, initial-fits}

@@ -11,9 +11,9 @@ use borrow.Author.Tests.{ltb-true}
 use Rattle.octets.specs.Outcome.{given}
 use Rattle.octets.specs.Octets.{bytes}
 use Rattle.octets.proofs.Numbers.{bytes-length, number-bytes}
-use Rattle.numbers.specs.Integer.{integer}
+use Rattle.integers.specs.Integer.{integer}
 use Rattle.writing.specs.Written.{two, smallest}
-use Rattle.numbers.proofs.Integers.{whole}
+use Rattle.integers.proofs.Integers.{whole}
 
 -- of m in suc j bytes, whose first two bits say that they are so many, the value v is read
 reads : (j m v : ℕ) (rest : List ℕ) → suc j ≡ 2 ^ (m / 256 ^ j % 256 / 64) → m % 256 ^ suc j % 2 ^ (8 * suc j - 2) ≡ v

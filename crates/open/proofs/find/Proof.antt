@@ -4,7 +4,7 @@ use borrow.Author.Needs.{needs}
 use borrow.Author.Tests.{not-true, not-false}
 use native.Mathlib.Omega.{arith}
 use lib.Dec.{eqb}
-use Rattle.numbers.specs.Answers.{recoveredAnswer}
+use Rattle.numbers_recovery.specs.Answers.{recoveredAnswer}
 use Rattle.wire.specs.HeaderAnswers.{readingAnswer}
 use Rattle.wire.proofs.Headers.{header-there}
 use Rattle.packets.specs.KeyRecord.{keysOf}

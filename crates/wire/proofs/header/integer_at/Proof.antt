@@ -3,8 +3,8 @@ use mathlib.Core.Path.{sym, ap, _∙_}
 use borrow.Author.Needs.{needs}
 use native.Mathlib.Omega.{arith}
 use lib.ListN.{drop, length-drop}
-use Rattle.numbers.specs.Integer.{integer}
-use Rattle.numbers.specs.Answers.{integerAnswer}
+use Rattle.integers.specs.Integer.{integer}
+use Rattle.integers.specs.Answers.{integerAnswer}
 use Rattle.octets.proofs.Parts.{to-end}
 use Rattle.wire.proofs.Fields.{integer-taken, integer-refused, integer-found}
 use Rattle.wire.proofs.header.integer_at.Statement.{statement}
