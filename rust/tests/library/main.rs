@@ -1,5 +1,5 @@
 //! The library through this crate: the papers' packets, every refusal, what stays untouched, and a receiver's list; and that
-//! what the repository says of it in several places is the same.
+//! the repository's other texts show the same examples and words.
 
 mod buffers;
 mod papers;

@@ -1,4 +1,4 @@
-//! What stands in several places and must be the same: each refusal's words, and the library's version.
+//! Each refusal's number and words are the same wherever they stand.
 
 use driftwicket::Refusal;
 
@@ -29,13 +29,4 @@ fn the_header_has_the_same_numbers_and_words() {
         assert!(HEADER.contains(&format!("DW_REFUSED_{name} = {}", refusal.number())), "{name}");
         assert_eq!(quoted(HEADER, &format!("case DW_REFUSED_{name}: return")), refusal.words());
     }
-}
-
-#[test]
-fn the_header_has_the_same_version() {
-    let number = |part: &str| {
-        let line = HEADER.split_once(&format!("DW_LIBRARY_VERSION_{part} ")).expect("a line for each part").1;
-        line.lines().next().expect("a number").to_string()
-    };
-    assert_eq!(["MAJOR", "MINOR", "PATCH"].map(number).join("."), env!("CARGO_PKG_VERSION"));
 }
