@@ -13,7 +13,7 @@ pub fn sha256(line: &[u8]) {
 
 // The hash of a block so many times.
 fn repeated(block: &[u8; 64], count: u32) -> [u8; 32] {
-    let mut value = sha256::initial();
+    let mut value = sha256_constants::initial();
     let mut i: u32 = 0;
     while i < count {
         let next = sha256::compress(value, block);

@@ -1,13 +1,13 @@
 // RFC 9000 section 17.2: headers read.
 use crate::fields;
 use crate::print;
-use wire::header::Header;
-use wire::header::Place;
-use wire::header::Reading;
-use wire::header::header_destination;
-use wire::header::header_source;
-use wire::header::header_token;
-use wire::header::read_header;
+use header_fields::Place;
+use header_initial::Header;
+use header_initial::Reading;
+use header_initial::read_header;
+use header_parts::header_destination;
+use header_parts::header_source;
+use header_parts::header_token;
 
 // How long a part is, and where it stands.
 fn place(names: &[u8], index: usize, found: Place) {

@@ -2,9 +2,9 @@
 use crate::fields;
 use crate::print;
 use retry_checking::Checking;
-use retry_checking::retry_destination;
-use retry_checking::retry_source;
-use retry_checking::retry_token;
+use retry_parts::retry_destination;
+use retry_parts::retry_source;
+use retry_parts::retry_token;
 use retry_writing::Writing;
 
 // A Retry written into a buffer, which is as long as the call says.

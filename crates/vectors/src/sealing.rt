@@ -1,7 +1,7 @@
 // RFC 9001 section 5.3: packets sealed.
 use crate::fields;
 use crate::print;
-use numbers::packet::FullPn;
+use numbers::FullPn;
 use seal::Sealing;
 
 // A packet sealed into a buffer, which is as long as the call says.
