@@ -1,0 +1,30 @@
+-- A refusal is told by its number alone, and what is given by its numbers.
+use mathlib.Core.Path.{sym, ap, _∙_}
+use borrow.Author.Needs.{needs}
+use Rattle.numbers.specs.Answers.{integerAnswer}
+use Rattle.c_forms.proofs.Answering.{refusing, giving}
+use Rattle.c_numbers.proofs.read_integer.Statement.{statement}
+use Rattle.c_numbers.proofs.read_integer.Tie as tie
+
+read-integer-requires : tie.Need-read-integer-requires
+read-integer-requires c κs = search needs
+
+enum-known-why : tie.Need-enum-known-why
+enum-known-why c = search needs
+
+cast-result : tie.Need-cast-result
+cast-result c = search needs
+
+enum-known-value : tie.Need-enum-known-value
+enum-known-value c = search needs
+
+returns : tie.Need-returns
+returns c = refusing (sym (ap integerAnswer (c .before .why .given .1)) ∙ c .before .before .before .read-integer .ensures .answer)
+
+returns-2 : tie.Need-returns-2
+returns-2 c = giving (sym (ap integerAnswer (c .before .before .value .given .1)) ∙ c .before .before .before .before .read-integer .ensures .answer)
+
+pub read-integer-spec : {M : Type 1} → statement M
+read-integer-spec =
+    tie.close
+    (tie.spec read-integer-requires enum-known-why cast-result enum-known-value returns returns-2)
