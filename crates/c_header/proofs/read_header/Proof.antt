@@ -6,21 +6,6 @@ use Rattle.c_forms.proofs.Answering.{refusing, giving}
 use Rattle.c_header.proofs.read_header.Statement.{statement}
 use Rattle.c_header.proofs.read_header.Tie as tie
 
-read-header-requires : tie.Need-read-header-requires
-read-header-requires c κs = search needs
-
-enum-known-why : tie.Need-enum-known-why
-enum-known-why c = search needs
-
-cast-result : tie.Need-cast-result
-cast-result c = search needs
-
-enum-known-header : tie.Need-enum-known-header
-enum-known-header c = search needs
-
-cast-t7 : tie.Need-cast-t7
-cast-t7 c = search needs
-
 returns : tie.Need-returns
 returns c = refusing (sym (ap readingAnswer (c .before .why .given .1)) ∙ c .before .before .before .read-header .ensures .answer)
 
@@ -31,10 +16,10 @@ pub read-header-spec : {M : Type 1} → statement M
 read-header-spec =
     tie.close
     (tie.spec
-    read-header-requires
-    enum-known-why
-    cast-result
-    enum-known-header
-    cast-t7
+    (λ c κs. search needs)
+    (λ c. search needs)
+    (λ c. search needs)
+    (λ c. search needs)
+    (λ c. search needs)
     returns
     returns-2)

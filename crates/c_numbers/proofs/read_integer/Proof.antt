@@ -6,18 +6,6 @@ use Rattle.c_forms.proofs.Answering.{refusing, giving}
 use Rattle.c_numbers.proofs.read_integer.Statement.{statement}
 use Rattle.c_numbers.proofs.read_integer.Tie as tie
 
-read-integer-requires : tie.Need-read-integer-requires
-read-integer-requires c κs = search needs
-
-enum-known-why : tie.Need-enum-known-why
-enum-known-why c = search needs
-
-cast-result : tie.Need-cast-result
-cast-result c = search needs
-
-enum-known-value : tie.Need-enum-known-value
-enum-known-value c = search needs
-
 returns : tie.Need-returns
 returns c = refusing (sym (ap integerAnswer (c .before .why .given .1)) ∙ c .before .before .before .read-integer .ensures .answer)
 
@@ -27,4 +15,4 @@ returns-2 c = giving (sym (ap integerAnswer (c .before .before .value .given .1)
 pub read-integer-spec : {M : Type 1} → statement M
 read-integer-spec =
     tie.close
-    (tie.spec read-integer-requires enum-known-why cast-result enum-known-value returns returns-2)
+    (tie.spec (λ c κs. search needs) (λ c. search needs) (λ c. search needs) (λ c. search needs) returns returns-2)

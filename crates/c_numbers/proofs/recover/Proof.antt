@@ -6,18 +6,6 @@ use Rattle.c_forms.proofs.Answering.{refusing, giving}
 use Rattle.c_numbers.proofs.recover.Statement.{statement}
 use Rattle.c_numbers.proofs.recover.Tie as tie
 
-recover-requires : tie.Need-recover-requires
-recover-requires c κs = search needs
-
-enum-known-why : tie.Need-enum-known-why
-enum-known-why c = search needs
-
-cast-result : tie.Need-cast-result
-cast-result c = search needs
-
-enum-known-full : tie.Need-enum-known-full
-enum-known-full c = search needs
-
 returns : tie.Need-returns
 returns c = refusing (sym (ap recoveredAnswer (c .before .why .given .1)) ∙ c .before .before .before .recover .ensures .answer)
 
@@ -27,4 +15,4 @@ returns-2 c = giving (sym (ap recoveredAnswer (c .before .before .full .given .1
 pub recover-spec : {M : Type 1} → statement M
 recover-spec =
     tie.close
-    (tie.spec recover-requires enum-known-why cast-result enum-known-full returns returns-2)
+    (tie.spec (λ c κs. search needs) (λ c. search needs) (λ c. search needs) (λ c. search needs) returns returns-2)

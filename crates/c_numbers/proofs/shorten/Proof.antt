@@ -7,21 +7,6 @@ use Rattle.c_forms.proofs.Answering.{refusing, giving}
 use Rattle.c_numbers.proofs.shorten.Statement.{statement}
 use Rattle.c_numbers.proofs.shorten.Tie as tie
 
-acknowledged-by-requires : tie.Need-acknowledged-by-requires
-acknowledged-by-requires c κs = search needs
-
-shorten-requires : tie.Need-shorten-requires
-shorten-requires c κs = search needs
-
-enum-known-why : tie.Need-enum-known-why
-enum-known-why c = search needs
-
-cast-result : tie.Need-cast-result
-cast-result c = search needs
-
-enum-known-short : tie.Need-enum-known-short
-enum-known-short c = search needs
-
 returns : tie.Need-returns
 returns c =
     let a = c .before .before .before .before .before .args in
@@ -36,10 +21,10 @@ pub shorten-spec : {M : Type 1} → statement M
 shorten-spec =
     tie.close
     (tie.spec
-    acknowledged-by-requires
-    shorten-requires
-    enum-known-why
-    cast-result
-    enum-known-short
+    (λ c κs. search needs)
+    (λ c κs. search needs)
+    (λ c. search needs)
+    (λ c. search needs)
+    (λ c. search needs)
     returns
     returns-2)

@@ -7,21 +7,6 @@ use Rattle.c_forms.proofs.Answering.{refusing, giving}
 use Rattle.c_numbers.proofs.smallest_length.Statement.{statement}
 use Rattle.c_numbers.proofs.smallest_length.Tie as tie
 
-acknowledged-by-requires : tie.Need-acknowledged-by-requires
-acknowledged-by-requires c κs = search needs
-
-smallest-length-requires : tie.Need-smallest-length-requires
-smallest-length-requires c κs = search needs
-
-enum-known-why : tie.Need-enum-known-why
-enum-known-why c = search needs
-
-cast-result : tie.Need-cast-result
-cast-result c = search needs
-
-enum-known-count : tie.Need-enum-known-count
-enum-known-count c = search needs
-
 returns : tie.Need-returns
 returns c = refusing (sym (ap smallestAnswer (c .before .why .given .1)) ∙ c .before .before .before .smallest-length .ensures .answer ∙ ap (smallestLength _) (c .before .before .before .before .acknowledged-by .ensures))
 
@@ -32,10 +17,10 @@ pub smallest-length-spec : {M : Type 1} → statement M
 smallest-length-spec =
     tie.close
     (tie.spec
-    acknowledged-by-requires
-    smallest-length-requires
-    enum-known-why
-    cast-result
-    enum-known-count
+    (λ c κs. search needs)
+    (λ c κs. search needs)
+    (λ c. search needs)
+    (λ c. search needs)
+    (λ c. search needs)
     returns
     returns-2)

@@ -7,34 +7,10 @@ use Rattle.c_packets.proofs.Answered.{seal-of}
 use Rattle.c_packets.proofs.seal.Statement.{statement}
 use Rattle.c_packets.proofs.seal.Tie as tie
 
-load-keys-requires : tie.Need-load-keys-requires
-load-keys-requires c κs = search needs
-
-acknowledged-by-requires : tie.Need-acknowledged-by-requires
-acknowledged-by-requires c κs = search needs
-
-seal-requires : tie.Need-seal-requires
-seal-requires c κs = search needs
-
-enum-known-why : tie.Need-enum-known-why
-enum-known-why c = search needs
-
-cast-result : tie.Need-cast-result
-cast-result c = search needs
-
-enum-known-size : tie.Need-enum-known-size
-enum-known-size c = search needs
-
-same-length : tie.Need-same-length
-same-length c = search needs
-
 returns : tie.Need-returns
 returns c =
     let s = seal-of (c .before .before .before .before .before .before .before .before .load-keys .ensures) (c .before .before .before .before .before .before .before .acknowledged-by .ensures) (c .before .before .before .before .before .seal .ensures) in
     writing _ (refusing (sym (ap sealingAnswer (c .before .why .given .1)) ∙ s .answer)) (s .output)
-
-same-length-2 : tie.Need-same-length-2
-same-length-2 c = search needs
 
 returns-2 : tie.Need-returns-2
 returns-2 c =
@@ -45,13 +21,13 @@ pub seal-spec : {M : Type 1} → statement M
 seal-spec =
     tie.close
     (tie.spec
-    load-keys-requires
-    acknowledged-by-requires
-    seal-requires
-    enum-known-why
-    cast-result
-    enum-known-size
-    same-length
+    (λ c κs. search needs)
+    (λ c κs. search needs)
+    (λ c κs. search needs)
+    (λ c. search needs)
+    (λ c. search needs)
+    (λ c. search needs)
+    (λ c. search needs)
     returns
-    same-length-2
+    (λ c. search needs)
     returns-2)

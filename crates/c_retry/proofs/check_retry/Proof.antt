@@ -6,21 +6,6 @@ use Rattle.c_forms.proofs.Answering.{refusing, giving}
 use Rattle.c_retry.proofs.check_retry.Statement.{statement}
 use Rattle.c_retry.proofs.check_retry.Tie as tie
 
-check-retry-requires : tie.Need-check-retry-requires
-check-retry-requires c κs = search needs
-
-enum-known-why : tie.Need-enum-known-why
-enum-known-why c = search needs
-
-cast-result : tie.Need-cast-result
-cast-result c = search needs
-
-enum-known-fields : tie.Need-enum-known-fields
-enum-known-fields c = search needs
-
-cast-t8 : tie.Need-cast-t8
-cast-t8 c = search needs
-
 returns : tie.Need-returns
 returns c = refusing (sym (ap checkingAnswer (c .before .why .given .1)) ∙ c .before .before .before .check-retry .ensures .answer)
 
@@ -31,10 +16,10 @@ pub check-retry-spec : {M : Type 1} → statement M
 check-retry-spec =
     tie.close
     (tie.spec
-    check-retry-requires
-    enum-known-why
-    cast-result
-    enum-known-fields
-    cast-t8
+    (λ c κs. search needs)
+    (λ c. search needs)
+    (λ c. search needs)
+    (λ c. search needs)
+    (λ c. search needs)
     returns
     returns-2)
