@@ -7,7 +7,8 @@ use Rattle.writing.specs.Written.{Plain}
 use Rattle.c_forms.specs.Promises.{Answers, Writes}
 use Rattle.c_numbers.specs.Promises.{DwReadInteger, DwSmallestLength, DwShorten, DwRecover}
 use Rattle.c_keys.specs.Promises.{DwInitialKeys}
-use Rattle.c_packets.specs.Promises.{DwSeal, DwOpen}
+use Rattle.c_seal.specs.Promises.{DwSeal}
+use Rattle.c_open.specs.Promises.{DwOpen}
 use Rattle.c_header.specs.Promises.{DwReadHeader}
 use Rattle.c_retry.specs.Promises.{DwWriteRetry, DwCheckRetry}
 

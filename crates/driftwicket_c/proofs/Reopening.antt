@@ -20,7 +20,7 @@ use Rattle.c_forms.specs.Arguments.{acknowledgedBy}
 use Rattle.c_forms.specs.Promises.{answered, told}
 use Rattle.c_forms.proofs.Numbered.{zero-given}
 use Rattle.c_key_record.specs.Layout.{keysIn}
-use Rattle.c_packets.specs.Promises.{openedNumbers}
+use Rattle.c_open.specs.Promises.{openedNumbers}
 use Rattle.driftwicket_c.specs.Reopened.{Sealed, Reopens}
 use Rattle.driftwicket_c.proofs.Numbered.{sealed-numbered}
 

@@ -8,7 +8,8 @@ use Rattle.numbers.specs.Numbers.{numbers, Near}
 use Rattle.wire.specs.Header.{limit, tagLength}
 use Rattle.writing.specs.Written.{Plain, plainHeader}
 use Rattle.c_key_record.specs.Layout.{keysIn}
-use Rattle.c_packets.specs.Promises.{DwSeal, DwOpen}
+use Rattle.c_seal.specs.Promises.{DwSeal}
+use Rattle.c_open.specs.Promises.{DwOpen}
 
 -- a packet that was sealed into a buffer, which held other bytes before, and was reported with its size
 pub record Sealed (keys : List ℕ) (p : Plain) (size : ℕ) (then : List ℕ) : Type 0 where

@@ -4,7 +4,8 @@
 use c_key_record::KeyRecord;
 ghost use Rattle.c_numbers.specs.Promises.{DwReadInteger, DwSmallestLength, DwShorten, DwRecover};
 ghost use Rattle.c_keys.specs.Promises.{DwInitialKeys};
-ghost use Rattle.c_packets.specs.Promises.{DwSeal, DwOpen};
+ghost use Rattle.c_seal.specs.Promises.{DwSeal};
+ghost use Rattle.c_open.specs.Promises.{DwOpen};
 ghost use Rattle.c_header.specs.Promises.{DwReadHeader};
 ghost use Rattle.c_retry.specs.Promises.{DwWriteRetry, DwCheckRetry};
 
@@ -86,7 +87,7 @@ pub extern "C" fn dw_seal(
 ) -> u32
     ensures { λ r. ⌜ DwSeal (now (keys .entry)) «any_acknowledged» acknowledged (record { destination = now (destination .entry); source = now (source .entry); token = now (token .entry); payload = now (payload .entry); packetNumber = number; numberLength = length }) (now (report .entry)) r (now (report .exit)) (now (out .entry)) (now (out .exit)) ⌝ }
 {
-    c_packets::seal(
+    c_seal::seal(
         keys,
         number,
         any_acknowledged,
@@ -113,7 +114,7 @@ pub extern "C" fn dw_open(
 ) -> u32
     ensures { λ r. ⌜ DwOpen (now (keys .entry)) (now (datagram .entry)) (now (expected .entry)) (now (expected .exit)) (now (report .entry)) r (now (report .exit)) (now (out .entry)) (now (out .exit)) ⌝ }
 {
-    c_packets::open(keys, expected, datagram, out, report)
+    c_open::open(keys, expected, datagram, out, report)
 }
 
 // RFC 9000 section 17.2.2: reports the version, place and length of both IDs and of the token, Length, and the number's place.

@@ -3,9 +3,9 @@ use mathlib.Core.Path.{sym, ap, _∙_}
 use borrow.Author.Needs.{needs}
 use Rattle.open.specs.Opening.{openingAnswer}
 use Rattle.c_forms.proofs.Answering.{refusing, giving}
-use Rattle.c_packets.proofs.Answered.{opening, open-of}
-use Rattle.c_packets.proofs.open.Statement.{statement}
-use Rattle.c_packets.proofs.open.Tie as tie
+use Rattle.c_open.proofs.Answered.{opening, open-of}
+use Rattle.c_open.proofs.open.Statement.{statement}
+use Rattle.c_open.proofs.open.Tie as tie
 
 returns : tie.Need-returns
 returns c =

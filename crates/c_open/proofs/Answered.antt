@@ -1,18 +1,14 @@
--- What C is told of packets, by what sealing and opening answered.
+-- What C is told of a packet, by what opening answered.
 use Prim.Native.Nat.{ℕ}
 use mathlib.Core.Path.{_≡_, subst}
 use mathlib.Core.List.{List, [], _∷_}
 use Rattle.octets.specs.Outcome.{Outcome, refused, given}
-use Rattle.numbers.specs.Numbers.{Acknowledged}
-use Rattle.writing.specs.Written.{Plain}
 use Rattle.packets.specs.Protection.{Keys}
 use Rattle.packets.specs.Packet.{Opened}
-use Rattle.seal.specs.Sealing.{Seal}
-use Rattle.seal.specs.declared.Sealing.{Sealing}
 use Rattle.open.specs.Opening.{Report, reported, Open}
 use Rattle.open.specs.declared.Opening.{Opening}
 use Rattle.c_forms.specs.Promises.{Answers}
-use Rattle.c_packets.specs.Promises.{openedNumbers}
+use Rattle.c_open.specs.Promises.{openedNumbers}
 
 abbrev pub reportNumbers : Report → List ℕ
 reportNumbers o = o .fullNumber ∷ o .numberLength ∷ o .headerLength ∷ o .payloadLength ∷ o .bytesUsed ∷ []
@@ -22,12 +18,7 @@ module _ {before : List ℕ} {r : ℕ} {report : List ℕ} where
   opening (refused n) a = record { answer = a .answer; reported = a .reported }
   opening (given opened) a = record { answer = a .answer; reported = a .reported }
 
--- ---- what is promised of keys and an acknowledged number, of those that C's arguments stand for
-pub seal-of : {k k′ : Keys} {a a′ : Acknowledged} {p : Plain} {before : List ℕ} {r : Sealing} {after : List ℕ} → k ≡ k′ → a ≡ a′ → Seal k a p before r after
-    → Seal k′ a′ p before r after
-seal-of {k} {k′} {a} {a′} {p} {before} {r} {after} same-keys same-acknowledged s =
-    subst (λ (x : Keys). Seal x a′ p before r after) same-keys (subst (λ (x : Acknowledged). Seal k x p before r after) same-acknowledged s)
-
+-- what is promised of keys, of those that C's record stands for
 pub open-of : {k k′ : Keys} {d : List ℕ} {expected next : ℕ} {before then : List ℕ} {r : Opening} → k ≡ k′ → Open k d expected next before then r
     → Open k′ d expected next before then r
 open-of {d = d} {expected = e} {next = n} {before = b} {then = t} {r = r} same-keys o = subst (λ (x : Keys). Open x d e n b t r) same-keys o

@@ -3,9 +3,9 @@ use mathlib.Core.Path.{sym, ap, _∙_}
 use borrow.Author.Needs.{needs}
 use Rattle.seal.specs.Sealing.{sealingAnswer}
 use Rattle.c_forms.proofs.Answering.{refusing, giving, writing}
-use Rattle.c_packets.proofs.Answered.{seal-of}
-use Rattle.c_packets.proofs.seal.Statement.{statement}
-use Rattle.c_packets.proofs.seal.Tie as tie
+use Rattle.c_seal.proofs.Answered.{seal-of}
+use Rattle.c_seal.proofs.seal.Statement.{statement}
+use Rattle.c_seal.proofs.seal.Tie as tie
 
 returns : tie.Need-returns
 returns c =

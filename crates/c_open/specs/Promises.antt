@@ -1,19 +1,14 @@
--- What C is promised of packets: RFC 9001 section 5.
+-- What C is promised of opening: RFC 9001 section 5.
 use Prim.Native.Nat.{ℕ}
 use mathlib.Core.Path.{_≡_}
 use mathlib.Core.List.{List, [], _∷_}
 use lib.ListN.{length}
 use Rattle.octets.specs.Octets.{placed}
-use Rattle.writing.specs.Written.{Plain}
-use Rattle.packets.specs.Packet.{Opened, sealed, opened}
+use Rattle.packets.specs.Packet.{Opened, opened}
 use Rattle.packets.specs.Effects.{output, after}
 use Rattle.packets.specs.AesGcm.{aesGcm}
-use Rattle.c_forms.specs.Arguments.{acknowledgedBy}
-use Rattle.c_forms.specs.Promises.{Answers, Writes}
+use Rattle.c_forms.specs.Promises.{Answers}
 use Rattle.c_key_record.specs.Layout.{keysIn}
-
-abbrev pub DwSeal : (keys : List ℕ) (any acknowledged : ℕ) → Plain → (before : List ℕ) (r : ℕ) (report : List ℕ) (buffer then : List ℕ) → Type 0
-DwSeal keys any acknowledged p before r report buffer = Writes (sealed aesGcm (keysIn keys) (acknowledgedBy any acknowledged) p (length buffer)) before r report buffer
 
 -- number, its length, header length, payload length, bytes used
 abbrev pub openedNumbers : Opened → List ℕ
