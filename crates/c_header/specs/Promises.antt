@@ -1,8 +1,8 @@
 -- What C is promised of a header: RFC 9000 section 17.2.
 use Prim.Native.Nat.{ℕ}
 use mathlib.Core.List.{List, [], _∷_}
-use Rattle.wire.specs.Header.{Header}
-use Rattle.wire.specs.HeaderAnswers.{anyHeader}
+use Rattle.header_initial.specs.InitialHeader.{Header}
+use Rattle.header_initial.specs.Answers.{anyHeader}
 use Rattle.c_forms.specs.Promises.{Answers}
 
 -- version; place and length of destination, source and token; Length; place of the number

@@ -6,8 +6,8 @@ use native.Mathlib.Omega.{arith}
 use lib.Dec.{leb, lit<}
 use lib.ListN.{length}
 use Rattle.octets.specs.Outcome.{Outcome, refused, given}
-use Rattle.wire.specs.Versions.{known}
-use Rattle.wire.specs.Header.{longestId}
+use Rattle.versions.specs.Versions.{known}
+use Rattle.header_fields.specs.Fields.{longestId}
 use Rattle.packets.specs.Protection.{Keys}
 use Rattle.packets.specs.KeyRecord.{keysOf}
 use Rattle.keys.specs.InitialKeys as Section5

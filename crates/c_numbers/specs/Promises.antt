@@ -1,8 +1,9 @@
 -- What C is promised of integers and packet numbers: RFC 9000 sections 16 and 17.1.
 use Prim.Native.Nat.{ℕ}
 use mathlib.Core.List.{List, [], _∷_}
-use Rattle.numbers.specs.Integer.{integer}
-use Rattle.numbers.specs.Numbers.{smallestLength, shortened, recovered}
+use Rattle.integers.specs.Integer.{integer}
+use Rattle.numbers_shortening.specs.Shortening.{smallestLength, shortened}
+use Rattle.numbers_recovery.specs.Recovery.{recovered}
 use Rattle.c_forms.specs.Arguments.{acknowledgedBy}
 use Rattle.c_forms.specs.Promises.{Answers}
 

@@ -1,18 +1,18 @@
 // RFC 9000 sections 16 and 17.1 for C: integers of variable length, and packet numbers short and full.
 use c_forms::acknowledged_by;
-use numbers::integer::Integer;
-use numbers::packet::FullPn;
-use numbers::packet::Recovered;
-use numbers::packet::Shortened;
-use numbers::packet::Smallest;
-use numbers::packet::TruncatedPn;
+use integers::Integer;
+use numbers::FullPn;
+use numbers::TruncatedPn;
+use numbers_recovery::Recovered;
+use numbers_shortening::Shortened;
+use numbers_shortening::Smallest;
 ghost use Rattle.c_numbers.specs.Promises.{DwReadInteger, DwSmallestLength, DwShorten, DwRecover};
 
 // Section 16: reports the value of the integer at the start, and the bytes it took.
 pub fn read_integer(bytes: &[u8], report: &mut [u64; 2]) -> u32
     ensures { λ r. ⌜ DwReadInteger (now (bytes .entry)) (now (report .entry)) r (now (report .exit)) ⌝ }
 {
-    match numbers::integer::read_integer(bytes) {
+    match integers::read_integer(bytes) {
         Integer::Refused(why) => why as u32,
         Integer::Read { value, taken } => {
             *report = [value, taken as u64];
@@ -30,7 +30,7 @@ pub fn smallest_length(
 ) -> u32
     ensures { λ r. ⌜ DwSmallestLength number «any_acknowledged» acknowledged (now (report .entry)) r (now (report .exit)) ⌝ }
 {
-    match numbers::packet::smallest_length(
+    match numbers_shortening::smallest_length(
         FullPn(number),
         acknowledged_by(any_acknowledged, acknowledged),
     ) {
@@ -52,7 +52,7 @@ pub fn shorten(
 ) -> u32
     ensures { λ r. ⌜ DwShorten number «any_acknowledged» acknowledged length (now (report .entry)) r (now (report .exit)) ⌝ }
 {
-    match numbers::packet::shorten(
+    match numbers_shortening::shorten(
         FullPn(number),
         acknowledged_by(any_acknowledged, acknowledged),
         length,
@@ -69,7 +69,7 @@ pub fn shorten(
 pub fn recover(expected: u64, truncated: u64, length: usize, report: &mut [u64; 1]) -> u32
     ensures { λ r. ⌜ DwRecover expected truncated length (now (report .entry)) r (now (report .exit)) ⌝ }
 {
-    match numbers::packet::recover(expected, TruncatedPn(truncated), length) {
+    match numbers_recovery::recover(expected, TruncatedPn(truncated), length) {
         Recovered::Refused(why) => why as u32,
         Recovered::Full(full) => {
             *report = [full.0];

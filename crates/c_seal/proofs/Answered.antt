@@ -2,8 +2,8 @@
 use Prim.Native.Nat.{ℕ}
 use mathlib.Core.Path.{_≡_, subst}
 use mathlib.Core.List.{List}
-use Rattle.numbers.specs.Numbers.{Acknowledged}
-use Rattle.writing.specs.Written.{Plain}
+use Rattle.numbers_shortening.specs.Shortening.{Acknowledged}
+use Rattle.header_writing.specs.Written.{Plain}
 use Rattle.packets.specs.Protection.{Keys}
 use Rattle.seal.specs.Sealing.{Seal}
 use Rattle.seal.specs.declared.Sealing.{Sealing}

@@ -2,7 +2,7 @@
 use Prim.Native.Nat.{ℕ}
 use mathlib.Core.List.{List}
 use lib.ListN.{length}
-use Rattle.writing.specs.Written.{Plain}
+use Rattle.header_writing.specs.Written.{Plain}
 use Rattle.packets.specs.Packet.{sealed}
 use Rattle.packets.specs.AesGcm.{aesGcm}
 use Rattle.c_forms.specs.Arguments.{acknowledgedBy}

@@ -2,7 +2,7 @@
 use c_forms::acknowledged_by;
 use c_key_record::KeyRecord;
 use c_key_record::load_keys;
-use numbers::packet::FullPn;
+use numbers::FullPn;
 use seal::Sealing;
 ghost use Rattle.c_seal.specs.Promises.{DwSeal};
 

@@ -1,7 +1,7 @@
 -- A refusal is told by its number alone, and what is given by its numbers.
 use mathlib.Core.Path.{sym, ap, _∙_}
 use borrow.Author.Needs.{needs}
-use Rattle.numbers.specs.Answers.{recoveredAnswer}
+use Rattle.numbers_recovery.specs.Answers.{recoveredAnswer}
 use Rattle.c_forms.proofs.Answering.{refusing, giving}
 use Rattle.c_numbers.proofs.recover.Statement.{statement}
 use Rattle.c_numbers.proofs.recover.Tie as tie
