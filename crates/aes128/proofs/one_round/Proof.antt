@@ -2,21 +2,11 @@
 use mathlib.Core.Path.{_≡_, sym, ap, _∙_}
 use mathlib.Core.Bool.{Bool, true, false}
 use borrow.Author.Needs.{needs}
-use Rattle.aes_state.specs.State.{State, subBytes, shiftRows, mixColumns, addRoundKey}
-use Rattle.aes_state.proofs.one_round.Statement.{statement}
-use Rattle.aes_state.proofs.one_round.Tie as tie
-
-sub-bytes-requires : tie.Need-sub-bytes-requires
-sub-bytes-requires c κs = search needs
-
-shift-rows-requires : tie.Need-shift-rows-requires
-shift-rows-requires c κs = search needs
-
-mix-columns-requires : tie.Need-mix-columns-requires
-mix-columns-requires c κs = search needs
-
-add-round-key-requires : tie.Need-add-round-key-requires
-add-round-key-requires c κs = search needs
+use Rattle.aes_state.specs.State.{State, subBytes, addRoundKey}
+use Rattle.aes_shifting.specs.Shifting.{shiftRows}
+use Rattle.aes_mixing.specs.Mixing.{mixColumns}
+use Rattle.aes128.proofs.one_round.Statement.{statement}
+use Rattle.aes128.proofs.one_round.Tie as tie
 
 returns : tie.Need-returns
 returns c =
@@ -25,9 +15,6 @@ returns c =
     let state = shifted .shift-rows .ensures ∙ ap shiftRows (shifted .before .sub-bytes .ensures) in
     let added = c .add-round-key .ensures ∙ ap (λ (s : State). addRoundKey s key) (c .before .mix-columns .ensures ∙ ap mixColumns state) in
     (λ h. added, λ h. let other : true ≡ false = sym (c .before .before .if1 .taken) ∙ h in cc)
-
-add-round-key-requires-2 : tie.Need-add-round-key-requires-2
-add-round-key-requires-2 c κs = search needs
 
 returns-2 : tie.Need-returns-2
 returns-2 c =
@@ -40,10 +27,10 @@ pub one-round-spec : {M : Type 1} → statement M
 one-round-spec =
     tie.close
     (tie.spec
-    sub-bytes-requires
-    shift-rows-requires
-    mix-columns-requires
-    add-round-key-requires
+    (λ c κs. search needs)
+    (λ c κs. search needs)
+    (λ c κs. search needs)
+    (λ c κs. search needs)
     returns
-    add-round-key-requires-2
+    (λ c κs. search needs)
     returns-2)
