@@ -16,10 +16,13 @@ use Rattle.gcm_counter.specs.Counter.{inc32, keyStream, gctr, j0}
 use Rattle.gcm_counter.proofs.Lists.{bytes-wrapped, block-take, block-drop}
 
 -- ---- the counter blocks
-pub first-block : (d b b′ nonce : List ℕ) → length d ≡ 16 → length nonce ≡ 12 → b ≡ laid d 0 nonce → b′ ≡ laid b 12 (bytes 4 1) → b′ ≡ j0 nonce
+pub first-block : (d b b′ nonce : List ℕ) (n : ℕ) → length d ≡ 16 → length nonce ≡ 12 → n ≡ 1 → b ≡ laid d 0 nonce → b′ ≡ laid b 12 (bytes 4 n) → b′ ≡ j0 nonce
 unfolding j0
-first-block d b b′ nonce ld ln e e′ =
-    e′ ∙ ap (λ (x : List ℕ). laid x 12 (bytes 4 1)) e ∙ laid-two d nonce (bytes 4 1) 12 (sym ln) (omega (arith, bytes-length 4 1))
+first-block d b b′ nonce n ld ln one e e′ =
+    e′
+    ∙ ap (λ (x : List ℕ). laid x 12 (bytes 4 n)) e
+    ∙ laid-two d nonce (bytes 4 n) 12 (sym ln) (omega (arith, bytes-length 4 n))
+    ∙ ap (λ (m : ℕ). nonce ++ bytes 4 m) one
 
 pub next-block : (b b′ : List ℕ) (n m : ℕ) → length b ≡ 16 → n ≡ number (take 4 (drop 12 b)) → m ≡ (n + 1) % 2 ^ 64 → b′ ≡ laid b 12 (bytes 4 m) → b′ ≡ inc32 b
 unfolding inc32

@@ -5,9 +5,9 @@ use mathlib.Core.Bool.{Bool}
 use native.Mathlib.Nat.{add-zero, mul-assoc}
 use native.Mathlib.Omega.{arith}
 use lib.Bits.{bitXor, bitOr, xor-block, xor-zero-r, or-shifted}
-use lib.Dec.{eqb, eqb→eq}
+use lib.Dec.{T, eqb, eqb→eq}
 use lib.ListN.{replicate}
-use Rattle.octets.proofs.Rule.{at-each}
+use Rattle.octets.proofs.Rule.{each, at-each}
 use Rattle.gcm_field.specs.Field.{R, next, nexts}
 use Rattle.gcm_field.proofs.Linear.{nexts-split}
 
@@ -21,27 +21,27 @@ joined f hi top low k l fits =
     ∙ add-words hi (top * 2 ^ k + low) f 0 fits (omega arith)
     ∙ ap (bitXor (hi * 2 ^ 64 + (top * 2 ^ k + low))) (add-zero (f * 2 ^ 64))
 
-pub shift-one : (hi lo : ℕ) → lo < 2 ^ 64
-    → bitXor (hi / 2) (lo % 2 * 0xe100_0000_0000_0000) * 2 ^ 64 + bitOr (hi * 2 ^ 63 % 2 ^ 64) (lo / 2) ≡ next (hi * 2 ^ 64 + lo)
+-- by one, where r is what a 1 that is shifted out adds to the high word
+pub shift-one : (hi lo r : ℕ) → lo < 2 ^ 64 → r * 2 ^ 64 ≡ R
+    → bitXor (hi / 2) (lo % 2 * r) * 2 ^ 64 + bitOr (hi * 2 ^ 63 % 2 ^ 64) (lo / 2) ≡ next (hi * 2 ^ 64 + lo)
 unfolding next
-shift-one hi lo h =
+shift-one hi lo r h is =
     let top : hi * 2 ^ 63 % 2 ^ 64 ≡ hi % 2 * 2 ^ 63 = omega arith in
     let half : hi / 2 * 2 ^ 64 + (hi % 2 * 2 ^ 63 + lo / 2) ≡ (hi * 2 ^ 64 + lo) / 2 = omega arith in
     let odd : lo % 2 ≡ (hi * 2 ^ 64 + lo) % 2 = omega arith in
-    ap (λ (x : ℕ). bitXor (hi / 2) (lo % 2 * 0xe100_0000_0000_0000) * 2 ^ 64 + bitOr x (lo / 2)) top
-    ∙ joined (lo % 2 * 0xe100_0000_0000_0000) (hi / 2) (hi % 2) (lo / 2) 63 (omega arith) (omega arith)
-    ∙ ap₂ bitXor half (mul-assoc (lo % 2) 0xe100_0000_0000_0000 (2 ^ 64) ∙ ap (λ (x : ℕ). x * R) odd)
+    ap (λ (x : ℕ). bitXor (hi / 2) (lo % 2 * r) * 2 ^ 64 + bitOr x (lo / 2)) top
+    ∙ joined (lo % 2 * r) (hi / 2) (hi % 2) (lo / 2) 63 (omega arith) (omega arith)
+    ∙ ap₂ bitXor half (mul-assoc (lo % 2) r (2 ^ 64) ∙ ap₂ (λ (x y : ℕ). x * y) odd is)
 
--- what four bits that are shifted out add to the high word: a rule tested at each number below 16
-abbrev reducedOf : ℕ → ℕ
-reducedOf k = bitXor (bitXor (k * 2 ^ 60 % 2 ^ 64) (k * 2 ^ 59 % 2 ^ 64)) (bitXor (k * 2 ^ 58 % 2 ^ 64) (k * 2 ^ 53 % 2 ^ 64))
+-- what four bits that are shifted out add to the high word: their sum in four places, by a rule tested at each number below 16
+abbrev pub placed : (p q r s k : ℕ) → ℕ
+placed p q r s k = bitXor (bitXor (k * p % 2 ^ 64) (k * q % 2 ^ 64)) (bitXor (k * r % 2 ^ 64) (k * s % 2 ^ 64))
 
-right : ℕ → ℕ → Bool
-right k x = eqb (reducedOf k * 2 ^ 64) (nexts 4 k)
+abbrev pub reduces : (p q r s k x : ℕ) → Bool
+reduces p q r s k x = eqb (placed p q r s k * 2 ^ 64) (nexts 4 k)
 
-pub reduced-is : (k : ℕ) → k < 16 → reducedOf k * 2 ^ 64 ≡ nexts 4 k
-unfolding right nexts next
-reduced-is k h = eqb→eq (reducedOf k * 2 ^ 64) (nexts 4 k) (at-each right (replicate 16 0) tt k h)
+pub reduced-is : (p q r s : ℕ) → T (each (reduces p q r s) 0 (replicate 16 0)) → (k : ℕ) → k < 16 → placed p q r s k * 2 ^ 64 ≡ nexts 4 k
+reduced-is p q r s tested k h = eqb→eq (placed p q r s k * 2 ^ 64) (nexts 4 k) (at-each (reduces p q r s) (replicate 16 0) tested k h)
 
 pub shift-four : (hi lo f : ℕ) → lo < 2 ^ 64 → f * 2 ^ 64 ≡ nexts 4 (lo % 16)
     → bitXor (hi / 16) f * 2 ^ 64 + bitOr (hi * 2 ^ 60 % 2 ^ 64) (lo / 16) ≡ nexts 4 (hi * 2 ^ 64 + lo)

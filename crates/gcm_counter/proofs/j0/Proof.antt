@@ -21,7 +21,7 @@ store-requires c κs = search needs
 returns : tie.Need-returns
 returns c =
     let nonce = c .before .before .before .before .before .before .before .args .nonce .now in
-    first-block (replicate 16 0) _ _ nonce refl (search needs) (c .before .before .before .before .copy .ensures) (c .before .store .ensures)
+    first-block (replicate 16 0) _ _ nonce _ refl (search needs) refl (c .before .before .before .before .copy .ensures) (c .before .store .ensures)
 
 pub j0-spec : {M : Type 1} → statement M
 j0-spec =

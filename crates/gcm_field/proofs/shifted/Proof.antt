@@ -1,4 +1,5 @@
 -- A shift of two words by one.
+use mathlib.Core.Path.{refl}
 use native.Mathlib.Omega.{arith}
 use borrow.Author.Needs.{needs}
 use Rattle.gcm_field.proofs.Words.{shift-one}
@@ -11,7 +12,7 @@ mul-t4 c = search needs
 returns : tie.Need-returns
 returns c =
     let v = c .before .before .before .before .args .v in
-    shift-one (v .hi) (v .lo) (omega arith)
+    shift-one (v .hi) (v .lo) _ (omega arith) refl
 
 pub shifted-spec : {M : Type 1} → statement M
 shifted-spec = tie.close (tie.spec mul-t4 returns)
