@@ -1,4 +1,11 @@
 // The product: every entry point, and every type that one takes or answers with.
+pub use header_fields::Place;
+pub use header_initial::Header;
+pub use header_initial::Reading;
+pub use header_initial::read_header;
+pub use header_parts::header_destination;
+pub use header_parts::header_source;
+pub use header_parts::header_token;
 pub use integers::Integer;
 pub use integers::read_integer;
 pub use keys::InitialKeys;
@@ -28,10 +35,3 @@ pub use retry_checking::retry_token;
 pub use retry_checking::write_retry;
 pub use seal::Sealing;
 pub use seal::seal;
-pub use wire::header::Header;
-pub use wire::header::Place;
-pub use wire::header::Reading;
-pub use wire::header::header_destination;
-pub use wire::header::header_source;
-pub use wire::header::header_token;
-pub use wire::header::read_header;
