@@ -60,7 +60,7 @@ static struct bytes next_bytes(void)
 static void answer(uint32_t refusal, const struct bytes *packet)
 {
     size_t i;
-    if (refusal != 0) {
+    if (refusal != DW_OK) {
         printf("refused %" PRIu32 "\n", refusal);
         return;
     }
@@ -81,14 +81,14 @@ static void seal_initial(void)
     size_t length = (size_t)next_number();
     struct bytes destination = next_bytes(), source = next_bytes(), token = next_bytes(), payload = next_bytes();
     struct bytes packet;
-    uint8_t keys[KEY_RECORD];
-    uint64_t written = 0;
+    uint8_t keys[DW_KEYS_SIZE];
+    uint64_t report[DW_SEALED_REPORT] = {0};
     uint32_t refusal = dw_initial_keys(version, id.at, id.length, server, keys);
-    if (refusal == 0)
+    if (refusal == DW_OK)
         refusal = dw_seal(keys, number, any, greatest, length, destination.at, destination.length, source.at,
                           source.length, token.at, token.length, payload.at, payload.length, packet.at,
-                          sizeof packet.at, &written);
-    packet.length = (size_t)written;
+                          sizeof packet.at, report);
+    packet.length = (size_t)report[DW_SEALED_LEN];
     answer(refusal, &packet);
 }
 

@@ -3,7 +3,7 @@ use mathlib.Core.Path.{refl, _∙_}
 use native.Mathlib.Omega.{arith}
 use lib.ListN.{replicate}
 use Rattle.octets.proofs.Buffers.{whole-part}
-use Rattle.driftwicket_c.proofs.KeyRecords.{keys-read, first-four}
+use Rattle.driftwicket_c.proofs.KeyRecords.{keys-read}
 use borrow.Author.Needs.{needs}
 use Rattle.driftwicket_c.proofs.arguments.load_keys.Statement.{statement}
 use Rattle.driftwicket_c.proofs.arguments.load_keys.Tie as tie
@@ -53,29 +53,20 @@ part-copy-end-3 c = search needs
 copy-requires-3 : tie.Need-copy-requires-3
 copy-requires-3 c κs = search needs
 
-array-read-version-of : tie.Need-array-read-version-of
-array-read-version-of c = search needs
+slice-aggregate-word : tie.Need-slice-aggregate-word
+slice-aggregate-word c = search needs
 
-array-read-version-of-2 : tie.Need-array-read-version-of-2
-array-read-version-of-2 c = search needs
-
-array-read-version-of-3 : tie.Need-array-read-version-of-3
-array-read-version-of-3 c = search needs
-
-array-read-version-of-4 : tie.Need-array-read-version-of-4
-array-read-version-of-4 c = search needs
-
-version-of-requires : tie.Need-version-of-requires
-version-of-requires c κs = search needs
+word-requires : tie.Need-word-requires
+word-requires c κs = search needs
 
 returns : tie.Need-returns
 returns c =
-    let s = c .before .before .before .before .before .before .before .before .before .before .before .before .before .before .before .before .args .t1 in
+    let s = c .before .before .before .before .before .before .before .before .before .before .before .before .before .before .before .before .before .args .t1 in
     keys-read s
-    (c .version-of .ensures ∙ first-four s (omega arith))
-    (c .before .before .before .before .before .before .before .before .before .before .before .before .copy .ensures ∙ whole-part (replicate 16 0) s 4 16 16 refl (omega arith) refl)
-    (c .before .before .before .before .before .before .before .copy2 .ensures ∙ whole-part (replicate 12 0) s 20 12 12 refl (omega arith) refl)
-    (c .before .before .copy3 .ensures ∙ whole-part (replicate 16 0) s 32 16 16 refl (omega arith) refl)
+    (c .word .ensures)
+    (c .before .before .before .before .before .before .before .before .before .before .before .before .before .copy .ensures ∙ whole-part (replicate 16 0) s 4 16 16 refl (omega arith) refl)
+    (c .before .before .before .before .before .before .before .before .copy2 .ensures ∙ whole-part (replicate 12 0) s 20 12 12 refl (omega arith) refl)
+    (c .before .before .before .copy3 .ensures ∙ whole-part (replicate 16 0) s 32 16 16 refl (omega arith) refl)
 
 pub load-keys-spec : {M : Type 1} → statement M
 load-keys-spec =
@@ -96,9 +87,6 @@ load-keys-spec =
     part-copy-start-3
     part-copy-end-3
     copy-requires-3
-    array-read-version-of
-    array-read-version-of-2
-    array-read-version-of-3
-    array-read-version-of-4
-    version-of-requires
+    slice-aggregate-word
+    word-requires
     returns)
