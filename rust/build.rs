@@ -16,7 +16,7 @@ const ARCHIVE: &str = "libdriftwicket.a";
 const DIRECTORY: &str = "DRIFTWICKET_LIB_DIR";
 
 /// What `make lib` makes the archive from, in the repository's root.
-const SOURCES: [&str; 4] = ["Makefile", "crates", "crates.txt", "tools/library"];
+const SOURCES: [&str; 5] = ["Makefile", "crates", "crates.txt", "kit.txt", "tools/library"];
 
 fn main() -> ExitCode {
     match link() {

@@ -1,7 +1,7 @@
 -- What is not 0 stands for the other choice.
 use Prim.Native.Nat.{ℕ, zero, suc}
 use mathlib.Core.Path.{_≡_, refl}
-use Rattle.numbers.specs.Numbers.{upTo}
+use Rattle.numbers_shortening.specs.Shortening.{upTo}
 use Rattle.keys.specs.InitialKeys.{server}
 use Rattle.driftwicket_c.specs.Arguments.{acknowledgedBy, sideBy}
 

@@ -12,8 +12,8 @@ use Rattle.sha256.specs.Constants.{H⁰}
 use Rattle.sha256.specs.Sha256.{padding, blocks, compressed, absorbed, hash}
 use Rattle.sha256.proofs.Digest.{digest-length}
 use Rattle.hkdf.specs.Hkdf.{hmac, T, Ts, expand, info, expandLabel}
-use Rattle.wire.specs.Versions.{known, version}
-use Rattle.wire.specs.Header.{longestId}
+use Rattle.versions.specs.Versions.{known, version}
+use Rattle.header_fields.specs.Fields.{longestId}
 use Rattle.packets.specs.Protection.{Keys}
 use Rattle.keys.specs.InitialKeys.{Side, sideSecret, keysFrom, initialKeys}
 use Rattle.driftwicket_c.specs.Arguments.{keyBytes, keysIn}

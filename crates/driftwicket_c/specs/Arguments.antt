@@ -2,7 +2,7 @@
 use Prim.Native.Nat.{ℕ, zero, suc}
 use mathlib.Core.List.{List, _++_}
 use Rattle.octets.specs.Octets.{bytes, number, part}
-use Rattle.numbers.specs.Numbers.{Acknowledged, nothing, upTo}
+use Rattle.numbers_shortening.specs.Shortening.{Acknowledged, nothing, upTo}
 use Rattle.packets.specs.Protection.{Keys}
 use Rattle.keys.specs.InitialKeys.{Side, client, server}
 

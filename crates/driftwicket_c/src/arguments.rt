@@ -4,7 +4,7 @@ use driftwicket::FullPn;
 use driftwicket::Keys;
 use driftwicket::Side;
 ghost use mathlib.Core.Path.{_≡_};
-ghost use Rattle.numbers.specs.Answers.{acknowledgedOf};
+ghost use Rattle.numbers_shortening.specs.Answers.{acknowledgedOf};
 ghost use Rattle.packets.specs.KeyRecord.{keysOf};
 ghost use Rattle.keys.specs.Answers.{sideOf};
 ghost use Rattle.driftwicket_c.specs.Arguments.{acknowledgedBy, sideBy, keyBytes, keysIn};

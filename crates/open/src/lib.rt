@@ -1,5 +1,5 @@
 // Opening: RFC 9001 section 5, as document 01 has it read.
-use numbers::packet::FullPn;
+use numbers::FullPn;
 use octets::refusal;
 use open_judging::Finding;
 use open_judging::find;

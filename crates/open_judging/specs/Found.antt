@@ -5,7 +5,7 @@ use mathlib.Core.List.{List}
 use Rattle.octets.specs.Outcome.{refused, given, unless, _>>_}
 use Rattle.octets.specs.Octets.{same}
 use Rattle.numbers.specs.Numbers.{numbers}
-use Rattle.wire.specs.Header.{tagLength}
+use Rattle.header_fields.specs.Fields.{tagLength}
 use Rattle.gcm.specs.Gcm.{stream, tag}
 use Rattle.packets.specs.Protection.{Keys, nonce}
 use Rattle.packets.specs.Packet.{Opened, opened}

@@ -1,15 +1,15 @@
 // Opening, as far as the tag: the header is read and the mask taken off, and each is judged in document 01's order.
-use numbers::packet::NUMBERS;
-use numbers::packet::Recovered;
-use numbers::packet::recover;
+use header_fields::TAG_LENGTH;
+use header_initial::Reading;
+use header_initial::read_initial;
+use header_long::Wanted;
+use numbers::NUMBERS;
+use numbers_recovery::Recovered;
+use numbers_recovery::recover;
 use octets::refusal;
 use open_unmasking::Packet;
 use open_unmasking::unmask;
 use packets::Keys;
-use wire::header::Reading;
-use wire::header::TAG_LENGTH;
-use wire::header::Wanted;
-use wire::header::read_initial;
 ghost use Rattle.packets.specs.KeyRecord.{keysOf};
 ghost use Rattle.open_judging.specs.Found.{Finds};
 
@@ -27,7 +27,7 @@ pub fn find(keys: Keys, expected: u64, datagram: &[u8], room: usize) -> Finding
         return Finding::Refused(refusal::RANGE);
     }
     let version = keys.version;
-    if !wire::version::is_known(version) {
+    if !versions::is_known(version) {
         return Finding::Refused(refusal::VERSION);
     }
     let header = match read_initial(datagram, Wanted::Only(version)) {

@@ -1,6 +1,6 @@
 // Opening, RFC 9001 section 5.3: a packet's tag, compared.
+use header_fields::TAG_LENGTH;
 use open_unmasking::Packet;
-use wire::header::TAG_LENGTH;
 ghost use Rattle.open_unmasking.specs.Parts.{Within};
 ghost use Rattle.open_tag.specs.Matching.{Matches};
 

@@ -3,7 +3,8 @@ use Prim.Native.Nat.{ℕ, _+_, _≤_}
 use mathlib.Core.List.{List}
 use lib.ListN.{length}
 use Rattle.octets.specs.Octets.{bytes}
-use Rattle.wire.specs.Header.{limit, leastLength}
+use Rattle.header_long.specs.LongHeader.{limit}
+use Rattle.header_fields.specs.Fields.{leastLength}
 use Rattle.packets.specs.Parts.{plainIn, cipherIn, tagIn}
 use Rattle.open_unmasking.specs.declared.Packet.{Packet}
 

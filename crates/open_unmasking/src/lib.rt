@@ -1,6 +1,6 @@
 // Opening, RFC 9001 section 5.4: the mask taken off, and what a packet is without it.
-use numbers::packet::FullPn;
-use numbers::packet::TruncatedPn;
+use numbers::FullPn;
+use numbers::TruncatedPn;
 use packets::Keys;
 ghost use Prim.Native.Nat.{_+_, _≤_};
 ghost use lib.ListN.{length};

@@ -1,7 +1,7 @@
 // Opening, RFC 9001 section 5.3: a packet whose tag is right, written out, and what is said of it.
-use numbers::packet::FullPn;
+use header_fields::TAG_LENGTH;
+use numbers::FullPn;
 use open_unmasking::Packet;
-use wire::header::TAG_LENGTH;
 ghost use Prim.Native.Nat.{_+_, _≤_};
 ghost use lib.ListN.{length};
 ghost use Rattle.open_unmasking.specs.Parts.{Within};

@@ -4,7 +4,7 @@ use mathlib.Core.List.{List}
 use Prim.Native.Nat.{ℕ}
 use Rattle.octets.specs.Outcome.{Outcome, refused, given}
 use Rattle.octets.proofs.Outcome.{once}
-use Rattle.wire.proofs.OneAnswer.{placeBack}
+use Rattle.header_fields.proofs.OneAnswer.{placeBack}
 use Rattle.retry_checking.specs.Retry as Fields
 use Rattle.retry_checking.specs.Answers.{checkingAnswer, CheckRetry, RetryDestination, RetrySource, RetryToken}
 use Rattle.retry_checking.specs.declared.Checking.{Checking}

@@ -7,14 +7,15 @@ use native.Mathlib.Omega.{arith}
 use lib.ListN.{length, take, drop, length-append}
 use lib.Seq.{take-at, drop-at}
 use Rattle.octets.specs.Outcome.{given}
-use Rattle.wire.specs.Versions.{version}
-use Rattle.wire.specs.Header.{long, tagLength}
-use Rattle.wire.specs.HeaderAnswers.{handed}
-use Rattle.writing.specs.Written.{longFirst, longFields}
-use Rattle.wire.proofs.Versions.{retry-fits}
-use Rattle.wire.proofs.Headers.{handed-part}
-use Rattle.writing.proofs.HeaderBack.{first-form, long-read, longPlaces, behind-ids, destination-back, source-back}
-use Rattle.writing.proofs.Places.{At, part-at}
+use Rattle.versions.specs.Versions.{version}
+use Rattle.header_long.specs.LongHeader.{long}
+use Rattle.header_fields.specs.Fields.{tagLength}
+use Rattle.header_fields.specs.Answers.{handed}
+use Rattle.header_writing.specs.Written.{longFirst, longFields}
+use Rattle.versions.proofs.Versions.{retry-fits}
+use Rattle.header_fields.proofs.Fields.{handed-part}
+use Rattle.header_writing.proofs.HeaderBack.{first-form, long-read, longPlaces, behind-ids, destination-back, source-back}
+use Rattle.header_writing.proofs.Places.{At, part-at}
 use Rattle.octets.specs.Octets.{same}
 use Rattle.octets.proofs.Same.{equal-same}
 use Rattle.retry_tag.specs.Tag.{retryTag, tagged}

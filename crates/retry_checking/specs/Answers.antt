@@ -3,7 +3,7 @@ use Prim.Native.Nat.{ℕ}
 use mathlib.Core.Path.{_≡_}
 use mathlib.Core.List.{List}
 use Rattle.octets.specs.Outcome.{Outcome, refused, given}
-use Rattle.wire.specs.HeaderAnswers.{placeOf, handed}
+use Rattle.header_fields.specs.Answers.{placeOf, handed}
 use Rattle.retry_checking.specs.Retry as Section17
 use Rattle.retry_checking.specs.Retry.{retryChecked}
 use Rattle.retry_checking.specs.declared.RetryFields.{RetryFields}

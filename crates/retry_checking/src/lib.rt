@@ -1,21 +1,21 @@
 // Retry packets, checked: RFC 9000 section 17.2.5 and RFC 9001 section 5.8.
+use header_fields::Found;
+use header_fields::LONGEST_ID;
+use header_fields::Place;
+use header_fields::TAG_LENGTH;
+use header_fields::part_at;
+use header_long::Kind;
+use header_long::LongReading;
+use header_long::Wanted;
+use header_long::read_long;
 use octets::refusal;
 use retry_tag::tag_of;
 pub use retry_writing::Writing;
 pub use retry_writing::write_retry;
-use wire::header::Found;
-use wire::header::Kind;
-use wire::header::LONGEST_ID;
-use wire::header::LongReading;
-use wire::header::Place;
-use wire::header::TAG_LENGTH;
-use wire::header::Wanted;
-use wire::header::part_at;
-use wire::header::read_long;
 ghost use mathlib.Core.Path.{_≡_};
 ghost use Prim.Native.Nat.{_≤_};
 ghost use lib.ListN.{length};
-ghost use Rattle.wire.specs.HeaderAnswers.{foundAnswer};
+ghost use Rattle.header_fields.specs.Answers.{foundAnswer};
 ghost use Rattle.retry_checking.specs.Retry.{tokenAt};
 ghost use Rattle.retry_checking.specs.Answers.{CheckRetry, RetryDestination, RetrySource, RetryToken};
 

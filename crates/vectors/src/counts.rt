@@ -1,16 +1,16 @@
 // RFC 9000 section 16, section 17.1 and appendix A, and document 01's lines on either side of a boundary.
 use crate::print;
-use numbers::integer::Integer;
-use numbers::integer::read_integer;
-use numbers::packet::Acknowledged;
-use numbers::packet::FullPn;
-use numbers::packet::Recovered;
-use numbers::packet::Shortened;
-use numbers::packet::Smallest;
-use numbers::packet::TruncatedPn;
-use numbers::packet::recover;
-use numbers::packet::shorten;
-use numbers::packet::smallest_length;
+use integers::Integer;
+use integers::read_integer;
+use numbers::FullPn;
+use numbers::TruncatedPn;
+use numbers_recovery::Recovered;
+use numbers_recovery::recover;
+use numbers_shortening::Acknowledged;
+use numbers_shortening::Shortened;
+use numbers_shortening::Smallest;
+use numbers_shortening::shorten;
+use numbers_shortening::smallest_length;
 
 pub fn run() {
     integers();

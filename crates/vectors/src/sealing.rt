@@ -2,8 +2,8 @@
 use crate::print;
 use keys::Side;
 use keys::initial_keys;
-use numbers::packet::Acknowledged;
-use numbers::packet::FullPn;
+use numbers::FullPn;
+use numbers_shortening::Acknowledged;
 use packets::Keys;
 use seal::Sealing;
 use seal::seal;

@@ -1,7 +1,7 @@
 // The words of a call: each is judged by the name that the manual gives it, and then read.
 use keys::Side;
-use numbers::packet::Acknowledged;
-use numbers::packet::FullPn;
+use numbers::FullPn;
+use numbers_shortening::Acknowledged;
 use terminal::digits::Number;
 use terminal::digits::digits;
 use terminal::digits::read_number;

@@ -3,7 +3,7 @@ use crate::answers;
 use crate::fields;
 use keys::InitialKeys;
 use keys::initial_keys;
-use numbers::packet::FullPn;
+use numbers::FullPn;
 use seal::Sealing;
 
 // The keys that the first three words behind a command name.

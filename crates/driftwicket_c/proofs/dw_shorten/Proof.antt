@@ -1,8 +1,8 @@
 -- A refusal is told by its number alone, and what is given by its numbers.
 use mathlib.Core.Path.{sym, ap, _∙_}
 use borrow.Author.Needs.{needs}
-use Rattle.numbers.specs.Numbers.{Acknowledged, shortened}
-use Rattle.numbers.specs.Answers.{shortenedAnswer}
+use Rattle.numbers_shortening.specs.Shortening.{Acknowledged, shortened}
+use Rattle.numbers_shortening.specs.Answers.{shortenedAnswer}
 use Rattle.driftwicket_c.proofs.Answering.{refusing, giving}
 use Rattle.driftwicket_c.proofs.dw_shorten.Statement.{statement}
 use Rattle.driftwicket_c.proofs.dw_shorten.Tie as tie

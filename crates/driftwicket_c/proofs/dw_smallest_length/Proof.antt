@@ -1,8 +1,8 @@
 -- A refusal is told by its number alone, and what is given by its numbers.
 use mathlib.Core.Path.{sym, ap, _∙_}
 use borrow.Author.Needs.{needs}
-use Rattle.numbers.specs.Numbers.{smallestLength}
-use Rattle.numbers.specs.Answers.{smallestAnswer}
+use Rattle.numbers_shortening.specs.Shortening.{smallestLength}
+use Rattle.numbers_shortening.specs.Answers.{smallestAnswer}
 use Rattle.driftwicket_c.proofs.Answering.{refusing, giving}
 use Rattle.driftwicket_c.proofs.dw_smallest_length.Statement.{statement}
 use Rattle.driftwicket_c.proofs.dw_smallest_length.Tie as tie

@@ -5,9 +5,10 @@ use borrow.Author.Needs.{needs}
 use borrow.Author.Tests.{not-true, not-false}
 use native.Mathlib.Omega.{arith}
 use lib.Seq.{length-take-le}
-use Rattle.wire.specs.HeaderAnswers.{foundAnswer, longAnswer}
+use Rattle.header_fields.specs.Answers.{foundAnswer}
+use Rattle.header_long.specs.Answers.{longAnswer}
 use Rattle.octets.proofs.Parts.{front-short, to-end}
-use Rattle.wire.proofs.Headers.{long-there}
+use Rattle.header_long.proofs.LongHeaders.{long-there}
 use Rattle.octets.specs.Octets.{same}
 use Rattle.retry_checking.proofs.Refusals.{token-there, check-long-original, check-no-long, check-no-token, check-other-tag, check-given}
 use Rattle.retry_checking.proofs.check_retry.Statement.{statement}

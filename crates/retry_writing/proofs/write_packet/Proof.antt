@@ -5,8 +5,8 @@ use borrow.Author.Needs.{needs}
 use native.Mathlib.Omega.{arith}
 use lib.ListN.{length}
 use lib.Seq.{length-take-le}
-use Rattle.writing.proofs.Forms.{long-length}
-use Rattle.wire.proofs.Versions.{retry-fits}
+use Rattle.header_writing.proofs.Forms.{long-length}
+use Rattle.versions.proofs.Versions.{retry-fits}
 use Rattle.octets.proofs.Parts.{front-short}
 use Rattle.retry_writing.proofs.Packets.{token-laid, tag-laid}
 use Rattle.retry_writing.proofs.write_packet.Statement.{statement}

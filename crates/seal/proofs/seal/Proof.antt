@@ -3,7 +3,7 @@ use mathlib.Core.Path.{sym, ap, _∙_}
 use borrow.Author.Needs.{needs}
 use borrow.Author.Tests.{not-true, not-false}
 use native.Mathlib.Omega.{arith}
-use Rattle.numbers.specs.Answers.{acknowledgedOf, shortenedAnswer}
+use Rattle.numbers_shortening.specs.Answers.{acknowledgedOf, shortenedAnswer}
 use Rattle.packets.specs.AesGcm.{aesGcm}
 use Rattle.packets.proofs.Sealing.{seal-version, seal-number, seal-destination, seal-source, seal-short, shortening}
 use Rattle.seal.proofs.Answers.{refuse, refuse-size, refuse-room, written}
