@@ -3,9 +3,9 @@ use borrow.Author.Needs.{needs}
 use native.Mathlib.Omega.{arith}
 use lib.ListN.{replicate, length-take, length-drop}
 use Rattle.gcm_field.specs.Field.{num}
-use Rattle.open.proofs.Pieces.{matches}
-use Rattle.open.proofs.tag_matches.Statement.{statement}
-use Rattle.open.proofs.tag_matches.Tie as tie
+use Rattle.open_tag.proofs.Pieces.{matches}
+use Rattle.open_tag.proofs.tag_matches.Statement.{statement}
+use Rattle.open_tag.proofs.tag_matches.Tie as tie
 
 slice-aggregate-store : tie.Need-slice-aggregate-store
 slice-aggregate-store c = search needs

@@ -8,9 +8,9 @@ use lib.ListN.{getD, take, replicate, length-take}
 use lib.Seq.{length-take-le}
 use Rattle.packets.specs.Protection.{onFirst}
 use Rattle.packets.specs.KeyRecord.{keysOf}
-use Rattle.open.proofs.Masking.{short-taken, unmasks}
-use Rattle.open.proofs.unmask.Statement.{statement}
-use Rattle.open.proofs.unmask.Tie as tie
+use Rattle.open_unmasking.proofs.Masking.{short-taken, unmasks}
+use Rattle.open_unmasking.proofs.unmask.Statement.{statement}
+use Rattle.open_unmasking.proofs.unmask.Tie as tie
 
 mask-of-requires : tie.Need-mask-of-requires
 mask-of-requires c κs = search needs

@@ -14,8 +14,8 @@ use Rattle.packets.specs.Parts.{Unmasked}
 use Rattle.packets.specs.AesGcm.{aesGcm}
 use Rattle.packets.proofs.Parts.{mask-rest}
 use Rattle.packets.proofs.Opening.{number-length}
-use Rattle.open.specs.Found.{Spells, Unmasks}
-use Rattle.open.specs.declared.Bare.{Bare}
+use Rattle.open_unmasking.specs.Unmasking.{Spells, Unmasks}
+use Rattle.open_unmasking.specs.declared.Bare.{Bare}
 
 -- bytes spell the number that is read of them
 pub spells : (s : List ℕ) (t : ℕ) → Bytes s → t ≡ number s → Spells s t

@@ -19,9 +19,10 @@ use Rattle.packets.specs.Protection.{Keys}
 use Rattle.packets.specs.Packet.{opened}
 use Rattle.packets.specs.AesGcm.{aesGcm}
 use Rattle.packets.proofs.Opening.{number-some, number-few, recovery-refused, recovery-given, open-range, open-judged}
-use Rattle.open.specs.Found.{Unmasks, Found}
-use Rattle.open.specs.declared.Bare.{Bare}
-use Rattle.open.specs.declared.Packet.{Packet}
+use Rattle.open_unmasking.specs.Unmasking.{Unmasks}
+use Rattle.open_unmasking.specs.declared.Bare.{Bare}
+use Rattle.open_unmasking.specs.declared.Packet.{Packet}
+use Rattle.open_judging.specs.Found.{Found}
 
 module _ (k : Keys) (e : ℕ) (d : List ℕ) (room : ℕ) (fair : e ≤ numbers) (ours : known (k .version) ≡ true) {h : Header}
     (read : given h ≡ header (λ v. eqb v (k .version)) d) (enough : h .numberAt + h .length′ - tagLength ≤ room) {b : Bare}

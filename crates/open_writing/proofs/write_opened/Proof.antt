@@ -1,8 +1,8 @@
 -- First byte, middle, number and payload, each behind the other.
 use borrow.Author.Needs.{needs}
-use Rattle.open.proofs.Pieces.{writes}
-use Rattle.open.proofs.write_opened.Statement.{statement}
-use Rattle.open.proofs.write_opened.Tie as tie
+use Rattle.open_writing.proofs.Pieces.{writes}
+use Rattle.open_writing.proofs.write_opened.Statement.{statement}
+use Rattle.open_writing.proofs.write_opened.Tie as tie
 
 add-start : tie.Need-add-start
 add-start c = search needs

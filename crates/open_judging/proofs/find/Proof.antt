@@ -10,9 +10,9 @@ use Rattle.header_initial.proofs.InitialHeaders.{header-there}
 use Rattle.packets.specs.KeyRecord.{keysOf}
 use Rattle.packets.specs.AesGcm.{aesGcm}
 use Rattle.packets.proofs.Opening.{open-expected, open-version, open-header, open-room, open-reserved}
-use Rattle.open.proofs.Judging.{range-refused, packet-found}
-use Rattle.open.proofs.find.Statement.{statement}
-use Rattle.open.proofs.find.Tie as tie
+use Rattle.open_judging.proofs.Judging.{range-refused, packet-found}
+use Rattle.open_judging.proofs.find.Statement.{statement}
+use Rattle.open_judging.proofs.find.Tie as tie
 
 returns : tie.Need-returns
 returns c = open-expected aesGcm _ _ _ _ (omega arith)

@@ -1,8 +1,8 @@
 -- What is read of bytes spells them.
 use borrow.Author.Needs.{needs}
-use Rattle.open.proofs.Masking.{spells}
-use Rattle.open.proofs.read_short.Statement.{statement}
-use Rattle.open.proofs.read_short.Tie as tie
+use Rattle.open_unmasking.proofs.Masking.{spells}
+use Rattle.open_unmasking.proofs.read_short.Statement.{statement}
+use Rattle.open_unmasking.proofs.read_short.Tie as tie
 
 load-requires : tie.Need-load-requires
 load-requires c κs = search needs
