@@ -28,8 +28,8 @@ pub fn integer(line: &[u8]) {
 
 // length NUMBER ACKNOWLEDGED
 pub fn length(line: &[u8]) {
-    let number = fields::number(line, 1);
-    match smallest_length(FullPn(number), fields::acknowledged(line, 2)) {
+    let number = console::fields::number(line, 1);
+    match smallest_length(FullPn(number), wicket_words::acknowledged(line, 2)) {
         Smallest::Refused(why) => print::refused(why),
         Smallest::Bytes(count) => print::number(count as u64),
     }
@@ -37,9 +37,9 @@ pub fn length(line: &[u8]) {
 
 // shorten NUMBER ACKNOWLEDGED LENGTH
 pub fn short(line: &[u8]) {
-    let number = fields::number(line, 1);
-    let length = fields::number(line, 3) as usize;
-    match shorten(FullPn(number), fields::acknowledged(line, 2), length) {
+    let number = console::fields::number(line, 1);
+    let length = console::fields::number(line, 3) as usize;
+    match shorten(FullPn(number), wicket_words::acknowledged(line, 2), length) {
         Shortened::Refused(why) => print::refused(why),
         Shortened::Short(truncated) => print::number(truncated.0),
     }
@@ -47,9 +47,13 @@ pub fn short(line: &[u8]) {
 
 // recover EXPECTED TRUNCATED LENGTH
 pub fn full(line: &[u8]) {
-    let truncated = fields::number(line, 2);
-    let length = fields::number(line, 3) as usize;
-    match recover(fields::number(line, 1), TruncatedPn(truncated), length) {
+    let truncated = console::fields::number(line, 2);
+    let length = console::fields::number(line, 3) as usize;
+    match recover(
+        console::fields::number(line, 1),
+        TruncatedPn(truncated),
+        length,
+    ) {
         Recovered::Refused(why) => print::refused(why),
         Recovered::Full(number) => print::number(number.0),
     }

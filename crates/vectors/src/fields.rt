@@ -1,40 +1,13 @@
-// The words of a call, read. Bytes are hex, and - is no bytes; 55:3:7 is 55 bytes, the first of them 3 and each 7 above the one
+// The words of a call that stand for bytes. They are hex, and - is no bytes; 55:3:7 is 55 bytes, the first of them 3 and each 7 above the one
 // before it, modulo 256.
-use digits_numbers::Number;
-use digits_numbers::read_number;
+use console::fields::END;
+use console::fields::number;
+use console::fields::value;
 use digits_reading::decode;
-use keys::InitialKeys;
-use keys::Side;
-use keys::initial_keys;
-use numbers::FullPn;
-use numbers_shortening::Acknowledged;
 use terminal::words::count;
-use terminal::words::same;
 use terminal::words::word;
 ghost use Prim.Native.Nat.{_≤_};
 ghost use Rattle.io.specs.Counts.{Counts};
-
-// What ends a word of a call.
-pub const END: u8 = 0;
-
-// The number that a text spells, and 0 where it spells none.
-fn value(text: &[u8]) -> u64 {
-    match read_number(text) {
-        Number::Value(value) => value,
-        Number::NoNumber => 0,
-        Number::TooLarge => 0,
-    }
-}
-
-// The number that a word spells, and 0 where it spells none.
-pub fn number(line: &[u8], index: usize) -> u64 {
-    value(word(line, index, END))
-}
-
-// The number that a word spells, in 32 bits.
-pub fn word_of(line: &[u8], index: usize) -> u32 {
-    (number(line, index) % 0x100000000) as u32
-}
 
 // The number that a text spells, in a byte.
 fn byte(text: &[u8]) -> u8 {
@@ -56,14 +29,14 @@ pub fn room(line: &[u8], index: usize, buffer: &[u8]) -> usize
 fn fill(out: &mut [u8], count: usize, first: u8, step: u8) -> usize
     ensures { λ r. ⌜ Counts r (now (out .exit)) ⌝ }
 {
-    let mut value = first;
+    let mut byte = first;
     let mut i: usize = 0;
     while i < out.len() {
         if i == count {
             return i;
         }
-        out[i] = value;
-        value = std::num::wrapping_add_u8(value, step);
+        out[i] = byte;
+        byte = std::num::wrapping_add_u8(byte, step);
         i += 1;
     }
     i
@@ -105,27 +78,4 @@ pub fn packet(line: &[u8], index: usize, buffer: &mut [u8]) -> usize
     let changed = byte(word(line, index + 2, END));
     change(buffer, place, changed);
     room(line, index + 3, buffer)
-}
-
-// The side that a word names.
-fn side(line: &[u8], index: usize) -> Side {
-    if same(word(line, index, END), b"server") {
-        return Side::Server;
-    }
-    Side::Client
-}
-
-// The greatest number acknowledged, by a word.
-pub fn acknowledged(line: &[u8], index: usize) -> Acknowledged {
-    if same(word(line, index, END), b"-") {
-        return Acknowledged::Nothing;
-    }
-    Acknowledged::UpTo(FullPn(number(line, index)))
-}
-
-// The keys that the first three words behind a command name: VERSION ID client|server. Keys that are refused are blank.
-pub fn keys_of(line: &[u8]) -> InitialKeys {
-    let mut id = io::buffer();
-    let length = bytes(line, 2, &mut id);
-    initial_keys(word_of(line, 1), &id[..length], side(line, 3))
 }

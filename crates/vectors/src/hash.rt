@@ -27,7 +27,8 @@ fn repeated(block: &[u8; 64], count: u32) -> [u8; 32] {
 pub fn sha256_blocks(line: &[u8]) {
     let mut block = [0u8; 64];
     fields::bytes(line, 1, &mut block);
-    print::bytes(&repeated(&block, fields::word_of(line, 2)));
+    let count = console::fields::number(line, 2) % 0x100000000;
+    print::bytes(&repeated(&block, count as u32));
 }
 
 // hmac KEY TEXT

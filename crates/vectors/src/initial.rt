@@ -1,10 +1,9 @@
 // RFC 9001 section 5.2: Initial keys.
-use crate::fields;
 use crate::print;
 
 // keys VERSION ID client|server
 pub fn keys(line: &[u8]) {
-    let made = fields::keys_of(line);
+    let made = wicket_words::keys_of(line);
     if made.refused != 0 {
         print::refused(made.refused);
         return;

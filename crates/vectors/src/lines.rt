@@ -1,7 +1,6 @@
 // The input, line by line: a label, = and a call. A line without = is a comment.
 use crate::cipher;
 use crate::counts;
-use crate::fields::END;
 use crate::hash;
 use crate::headers;
 use crate::initial;
@@ -9,6 +8,7 @@ use crate::opening;
 use crate::print;
 use crate::retrying;
 use crate::sealing;
+use console::fields::END;
 use libc::STDIN_FILENO;
 use terminal::lines::Ending;
 use terminal::lines::blanks_to_zeros;

@@ -1,8 +1,8 @@
 // RFC 9001 sections 5.3 and 5.4: packets opened.
 use crate::fields;
 use crate::print;
-use open::Opened;
 use open::Opening;
+use open_writing::Opened;
 
 // The numbers of what was opened; how many bytes were written.
 fn opened(found: Opened) -> usize {
@@ -39,9 +39,9 @@ fn after(expected: u64, out: &[u8], written: usize) {
 
 // A packet opened into a buffer, which is as long as the call says.
 fn open_into(line: &[u8], out: &mut [u8]) {
-    let made = fields::keys_of(line);
+    let made = wicket_words::keys_of(line);
     let keys = made.keys;
-    let mut expected = fields::number(line, 4);
+    let mut expected = console::fields::number(line, 4);
     let mut datagram = io::buffer();
     let length = fields::packet(line, 6, &mut datagram);
     match open::open(keys, &mut expected, &datagram[..length], out) {

@@ -18,12 +18,12 @@ fn retry_into(line: &[u8], out: &mut [u8]) {
     let mut token = io::buffer();
     let token_length = fields::bytes(line, 5, &mut token);
     match retry_writing::write_retry(
-        fields::word_of(line, 1),
+        wicket_words::version(line, 1),
         &original[..original_length],
         &destination[..destination_length],
         &source[..source_length],
         &token[..token_length],
-        fields::number(line, 6),
+        console::fields::number(line, 6),
         out,
     ) {
         Writing::Refused(why) => print::refused(why),

@@ -6,9 +6,9 @@ use seal::Sealing;
 
 // A packet sealed into a buffer, which is as long as the call says.
 fn seal_into(line: &[u8], out: &mut [u8]) {
-    let made = fields::keys_of(line);
+    let made = wicket_words::keys_of(line);
     let keys = made.keys;
-    let number = fields::number(line, 4);
+    let number = console::fields::number(line, 4);
     let mut destination = io::buffer();
     let destination_length = fields::bytes(line, 7, &mut destination);
     let mut source = io::buffer();
@@ -20,8 +20,8 @@ fn seal_into(line: &[u8], out: &mut [u8]) {
     match seal::seal(
         keys,
         FullPn(number),
-        fields::acknowledged(line, 5),
-        fields::number(line, 6) as usize,
+        wicket_words::acknowledged(line, 5),
+        console::fields::number(line, 6) as usize,
         &destination[..destination_length],
         &source[..source_length],
         &token[..token_length],

@@ -1,7 +1,7 @@
 // wicket retry, wicket check-retry.
-use crate::answers;
-use crate::fields;
 use crate::sealing::written;
+use console::answers;
+use console::fields;
 use retry_checking::Checking;
 use retry_checking::RetryFields;
 use retry_parts::retry_destination;
@@ -21,7 +21,7 @@ pub fn retry(line: &[u8]) {
     let token_length = fields::bytes(line, 5, &mut token);
     let mut out = io::buffer();
     match retry_writing::write_retry(
-        fields::version(line, 1),
+        wicket_words::version(line, 1),
         &original[..original_length],
         &destination[..destination_length],
         &source[..source_length],
@@ -39,14 +39,25 @@ fn checked(found: RetryFields, original: &[u8], datagram: &[u8]) {
     let destination = found.destination;
     let source = found.source;
     let token = found.token;
-    answers::version(found.version);
+    answers::hex_word(b"version", found.version);
     answers::part(
         b"destination",
-        destination,
+        destination.len,
+        destination.at,
         retry_destination(original, datagram),
     );
-    answers::part(b"source", source, retry_source(original, datagram));
-    answers::part(b"token", token, retry_token(original, datagram));
+    answers::part(
+        b"source",
+        source.len,
+        source.at,
+        retry_source(original, datagram),
+    );
+    answers::part(
+        b"token",
+        token.len,
+        token.at,
+        retry_token(original, datagram),
+    );
 }
 
 // wicket check-retry ORIGINAL DATAGRAM

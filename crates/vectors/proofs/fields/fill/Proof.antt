@@ -9,10 +9,10 @@ use Rattle.vectors.proofs.fields.fill.Statement.{statement}
 use Rattle.vectors.proofs.fields.fill.Tie as tie
 
 abbrev Inv-loop : tie.InvT-loop
-Inv-loop out₀ count first step value₀ i₀ out value i = (i ≤ length out) × (length out ≡ length out₀)
+Inv-loop out₀ count first step byte₀ i₀ out byte i = (i ≤ length out) × (length out ≡ length out₀)
 
 abbrev μ-loop : tie.MeasureT-loop
-μ-loop out₀ count first step value₀ i₀ out value i = length out - i
+μ-loop out₀ count first step byte₀ i₀ out byte i = length out - i
 
 loop-holds : tie.Need-loop-holds Inv-loop μ-loop
 loop-holds c = (search needs, refl)
