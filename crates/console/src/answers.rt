@@ -6,7 +6,7 @@ ghost use Rattle.console.specs.Answers.{inside};
 // The width of a row's label.
 const LABEL: usize = 15;
 
-// The words of each refusal, by its number: docs/SCOPE.md, "What comes back".
+// The words of each refusal, by its number: docs/SCOPE.md, "Refusals".
 const WORDS: [u8; 543] = *b"no refusal\n\
 the datagram is empty, or over 1,500 bytes\n\
 the form bit or the fixed bit is clear\n\
