@@ -27,6 +27,7 @@ demo: kit ## prove the library and wicket, and show the papers' packets, a recei
 	@echo
 	@sed -E 's/^(.{116}).{5,}$$/\1 .../' crates/wicket/stdout
 	@echo
+	@tools/wicket-status
 	@echo "A call of your own: tools/wicket keys 1 8394c8f03e515708 client"
 
 # The gate: the layout, the names that the documents cite, the library against the second program and from Rust; then every
