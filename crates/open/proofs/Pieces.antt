@@ -9,7 +9,8 @@ use Rattle.octets.specs.Octets.{bytes, part, laid, same}
 use Rattle.octets.proofs.Parts.{part-length}
 use Rattle.octets.proofs.Numbers.{bytes-length}
 use Rattle.octets.proofs.Buffers.{front-laid, goes-on}
-use Rattle.gcm.specs.Gcm.{streamBy, tagBy, hashKey}
+use Rattle.gcm_counter.specs.Counter.{streamBy}
+use Rattle.gcm.specs.Gcm.{tagBy, hashKey}
 use Rattle.open.specs.Found.{Within, plainOf, cipherOf, tagOf, Matches, Writes}
 use Rattle.open.specs.declared.Packet.{Packet}
 

@@ -9,7 +9,8 @@ use Rattle.octets.specs.Octets.{bytes, begun, same}
 use Rattle.numbers.specs.Numbers.{numbers, window}
 use Rattle.header_long.specs.LongHeader.{limit}
 use Rattle.header_fields.specs.Fields.{leastLength, tagLength}
-use Rattle.gcm.specs.Gcm.{stream, tag, streamBy, tagBy, hashKey}
+use Rattle.gcm_counter.specs.Counter.{stream, streamBy}
+use Rattle.gcm.specs.Gcm.{tag, tagBy, hashKey}
 use Rattle.packets.specs.Protection.{Keys, nonce}
 use Rattle.packets.specs.Packet.{Opened, opened, maskOf}
 use Rattle.packets.specs.Parts.{Unmasked, plainIn, cipherIn, tagIn}

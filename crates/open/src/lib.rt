@@ -139,8 +139,8 @@ fn tag_matches(schedule: &[u8; 176], nonce: &[u8; 12], datagram: &[u8], packet: 
     let start = place + count;
     let end = place + packet.length;
     let close = end - TAG_LENGTH;
-    let key = gcm::tag::hash_key(schedule);
-    let tag = gcm::tag::make_tag(
+    let key = gcm::hash_key(schedule);
+    let tag = gcm::make_tag(
         schedule,
         key,
         nonce,
@@ -149,7 +149,7 @@ fn tag_matches(schedule: &[u8; 176], nonce: &[u8; 12], datagram: &[u8], packet: 
         &short[..count],
         &datagram[start..close],
     );
-    gcm::tag::same_tag(&datagram[close..end], &tag)
+    gcm::same_tag(&datagram[close..end], &tag)
 }
 
 // The plain header at the buffer's start, and the payload behind it; what was opened so.
@@ -173,7 +173,7 @@ fn write_opened(
     octets::put(buffer, 0, packet.first);
     octets::copy(buffer, 1, &datagram[1..place]);
     octets::store(buffer, place, count, truncated.0);
-    gcm::counter::crypt(schedule, nonce, &datagram[start..end], buffer, start);
+    gcm_counter::crypt(schedule, nonce, &datagram[start..end], buffer, start);
     Opened {
         number,
         number_length: count,

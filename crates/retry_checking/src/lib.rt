@@ -65,7 +65,7 @@ pub fn check_retry(original: &[u8], datagram: &[u8]) -> Checking
     };
     let tag_at = token.at + token.len;
     let tag = tag_of(long.version, original, &datagram[..tag_at]);
-    if !gcm::tag::same_tag(&datagram[tag_at..], &tag) {
+    if !gcm::same_tag(&datagram[tag_at..], &tag) {
         return Checking::Refused(refusal::TAG);
     }
     Checking::Checked(RetryFields {
