@@ -11,7 +11,8 @@ use Rattle.octets.proofs.Outcome.{passed, given-same}
 use Rattle.sha256.specs.Constants.{H⁰}
 use Rattle.sha256.specs.Sha256.{padding, blocks, compressed, absorbed, hash}
 use Rattle.sha256.proofs.Digest.{digest-length}
-use Rattle.hkdf.specs.Hkdf.{hmac, T, Ts, expand, info, expandLabel}
+use Rattle.hmac.specs.Hmac.{hmac}
+use Rattle.hkdf.specs.Hkdf.{T, Ts, expand, info, expandLabel}
 use Rattle.wire.specs.Versions.{known, version}
 use Rattle.wire.specs.Header.{longestId}
 use Rattle.packets.specs.Protection.{Keys}
