@@ -6,7 +6,7 @@ use lib.ListN.{length}
 use Rattle.octets.specs.Outcome.{Outcome, refused, given}
 use Rattle.octets.specs.Octets.{placed, lengthGiven}
 use Rattle.numbers_shortening.specs.Shortening.{Acknowledged}
-use Rattle.writing.specs.Written.{Plain}
+use Rattle.header_writing.specs.Written.{Plain}
 use Rattle.packets.specs.Protection.{Keys}
 use Rattle.packets.specs.Packet.{Opened}
 use Rattle.seal.specs.Sealing.{Seal}

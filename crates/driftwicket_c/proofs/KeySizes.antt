@@ -8,13 +8,13 @@ use lib.ListN.{length, take}
 use lib.Seq.{length-take-le}
 use Rattle.octets.specs.Outcome.{given}
 use Rattle.octets.proofs.Outcome.{passed, given-same}
-use Rattle.sha256.specs.Constants.{H⁰}
+use Rattle.sha256_constants.specs.Constants.{H⁰}
 use Rattle.sha256.specs.Sha256.{padding, blocks, compressed, absorbed, hash}
 use Rattle.sha256.proofs.Digest.{digest-length}
 use Rattle.hmac.specs.Hmac.{hmac}
 use Rattle.hkdf.specs.Hkdf.{T, Ts, expand, info, expandLabel}
-use Rattle.wire.specs.Versions.{known, version}
-use Rattle.wire.specs.Header.{longestId}
+use Rattle.versions.specs.Versions.{known, version}
+use Rattle.header_fields.specs.Fields.{longestId}
 use Rattle.packets.specs.Protection.{Keys}
 use Rattle.keys.specs.InitialKeys.{Side, sideSecret, keysFrom, initialKeys}
 use Rattle.driftwicket_c.specs.Arguments.{keyBytes, keysIn}

@@ -13,9 +13,11 @@ use Rattle.integers.specs.Integer.{integer}
 use Rattle.numbers_shortening.specs.Shortening.{Acknowledged, nothing, upTo, coverable, ahead, gap, smallestLength, shortened}
 use Rattle.numbers.specs.Numbers.{numbers, window, half}
 use Rattle.numbers_recovery.specs.Recovery.{decoded, recovered}
-use Rattle.wire.specs.Versions.{Version, known, version}
-use Rattle.wire.specs.Header.{limit, longestId, leastLength, tagLength, behind, versionOf, judged, idAt, long, integerAt, fieldAt, restAt, header}
-use Rattle.writing.specs.Written.{Plain}
+use Rattle.versions.specs.Versions.{Version, known, version}
+use Rattle.header_long.specs.LongHeader.{limit, versionOf, judged, long}
+use Rattle.header_fields.specs.Fields.{longestId, leastLength, tagLength, behind, idAt, integerAt, fieldAt, restAt}
+use Rattle.header_initial.specs.InitialHeader.{header}
+use Rattle.header_writing.specs.Written.{Plain}
 use Rattle.packets.specs.Suite.{Suite}
 use Rattle.packets.specs.Protection.{Keys, nonce, onFirst, onNumber}
 use Rattle.packets.specs.Packet.{maskOf, packetOf, sealed, unprotected, opened}

@@ -3,7 +3,7 @@ use Prim.Native.Nat.{ℕ}
 use mathlib.Core.Path.{_≡_, sym, _∙_}
 use mathlib.Core.List.{List}
 use Rattle.octets.specs.Outcome.{Outcome}
-use Rattle.writing.specs.Written.{Plain}
+use Rattle.header_writing.specs.Written.{Plain}
 use Rattle.driftwicket_c.specs.Promises.{Answers, Writes, DwReadInteger, DwSmallestLength, DwShorten, DwRecover, DwInitialKeys, DwSeal, DwOpen, DwReadHeader, DwWriteRetry, DwCheckRetry}
 
 module _ {before : List ℕ} {r r′ : ℕ} {report report′ : List ℕ} where

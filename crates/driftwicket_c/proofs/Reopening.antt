@@ -7,8 +7,8 @@ use lib.ListN.{length, take, drop, getD}
 use lib.Seq.{take-at}
 use Rattle.octets.specs.Outcome.{Outcome, given}
 use Rattle.octets.specs.Octets.{placed}
-use Rattle.wire.specs.Header.{limit}
-use Rattle.writing.specs.Written.{Plain, plainHeader}
+use Rattle.header_long.specs.LongHeader.{limit}
+use Rattle.header_writing.specs.Written.{Plain, plainHeader}
 use Rattle.packets.specs.Protection.{Keys}
 use Rattle.packets.specs.Packet.{Opened, sealed, opened}
 use Rattle.packets.specs.Effects.{output, after}

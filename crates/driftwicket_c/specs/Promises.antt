@@ -8,9 +8,9 @@ use Rattle.octets.specs.Octets.{placed}
 use Rattle.integers.specs.Integer.{integer}
 use Rattle.numbers_shortening.specs.Shortening.{smallestLength, shortened}
 use Rattle.numbers_recovery.specs.Recovery.{recovered}
-use Rattle.wire.specs.Header.{Header}
-use Rattle.wire.specs.HeaderAnswers.{anyHeader}
-use Rattle.writing.specs.Written.{Plain}
+use Rattle.header_initial.specs.InitialHeader.{Header}
+use Rattle.header_initial.specs.Answers.{anyHeader}
+use Rattle.header_writing.specs.Written.{Plain}
 use Rattle.packets.specs.Packet.{Opened, sealed, opened}
 use Rattle.packets.specs.Effects.{output, after}
 use Rattle.packets.specs.AesGcm.{aesGcm}

@@ -6,8 +6,9 @@ use lib.ListN.{length, take}
 use Rattle.octets.specs.Octets.{begun}
 use Rattle.numbers.specs.Numbers.{numbers}
 use Rattle.numbers_recovery.specs.Recovery.{Near}
-use Rattle.wire.specs.Header.{limit, tagLength}
-use Rattle.writing.specs.Written.{Plain, plainHeader}
+use Rattle.header_long.specs.LongHeader.{limit}
+use Rattle.header_fields.specs.Fields.{tagLength}
+use Rattle.header_writing.specs.Written.{Plain, plainHeader}
 use Rattle.driftwicket_c.specs.Arguments.{keysIn}
 use Rattle.driftwicket_c.specs.Promises.{DwSeal, DwOpen}
 

@@ -6,8 +6,8 @@ use mathlib.Core.List.{List}
 use lib.ListN.{length}
 use borrow.Author.Tests.{le-leb, lt-leb}
 use Rattle.octets.specs.Outcome.{refused, given}
-use Rattle.wire.specs.Versions.{known}
-use Rattle.wire.specs.Header.{longestId}
+use Rattle.versions.specs.Versions.{known}
+use Rattle.header_fields.specs.Fields.{longestId}
 use Rattle.packets.specs.Protection.{Keys}
 use Rattle.keys.specs.InitialKeys.{Side, sideSecret, keysFrom, initialKeys}
 

@@ -4,7 +4,7 @@ use mathlib.Core.Path.{_≡_}
 use mathlib.Core.List.{List}
 use lib.ListN.{replicate}
 use Rattle.octets.specs.Outcome.{Outcome, refused, given}
-use Rattle.wire.specs.Versions.{Version}
+use Rattle.versions.specs.Versions.{Version}
 use Rattle.packets.specs.Protection.{Keys}
 use Rattle.packets.specs.KeyRecord.{keysOf}
 use Rattle.keys.specs.InitialKeys as Section5

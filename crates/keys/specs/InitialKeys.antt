@@ -6,8 +6,8 @@ use lib.ListN.{length}
 use Rattle.octets.specs.Outcome.{Outcome, given, unless, _>>=_, _>>_}
 use Rattle.octets.specs.Text.{ascii}
 use Rattle.hkdf.specs.Hkdf.{extract, expandLabel}
-use Rattle.wire.specs.Versions.{known, version}
-use Rattle.wire.specs.Header.{longestId}
+use Rattle.versions.specs.Versions.{known, version}
+use Rattle.header_fields.specs.Fields.{longestId}
 use Rattle.packets.specs.Protection.{Keys}
 
 pub data Side : Type 0 where

@@ -1,14 +1,13 @@
 // RFC 9001 section 5.2: the keys of Initial packets, from the client's Destination Connection ID.
+use header_fields::LONGEST_ID;
 use octets::refusal;
 use packets::Keys;
-use wire::header::LONGEST_ID;
-use wire::version;
 ghost use mathlib.Core.Path.{_≡_};
 ghost use Prim.Native.Nat.{_≤_};
 ghost use lib.ListN.{length};
 ghost use Rattle.hkdf.specs.Hkdf.{expandLabel};
-ghost use Rattle.wire.specs.Versions as Versions;
-ghost use Rattle.wire.specs.Header.{longestId};
+ghost use Rattle.versions.specs.Versions as Versions;
+ghost use Rattle.header_fields.specs.Fields.{longestId};
 ghost use Rattle.packets.specs.KeyRecord.{keysOf};
 ghost use Rattle.keys.specs.InitialKeys.{sideSecret, keysFrom};
 ghost use Rattle.keys.specs.Answers.{labelOf, sideOf, blankKeys, InitialKeysMade};
@@ -37,7 +36,7 @@ fn expand_part(number: u32, part: Part, secret: &[u8; 32], out: &mut [u8])
     requires { ⌜ length (now out) ≤ 32 ⌝ }
     ensures { λ _. ⌜ now (out .exit) ≡ expandLabel (now (secret .entry)) (labelOf part (Versions.version number)) (length (now (out .entry))) ⌝ }
 {
-    if number == version::VERSION_1 {
+    if number == versions::VERSION_1 {
         match part {
             Part::Key => hkdf::expand_label(secret, b"quic key", out),
             Part::Iv => hkdf::expand_label(secret, b"quic iv", out),
@@ -75,7 +74,7 @@ fn secret_of(number: u32, destination: &[u8], side: Side) -> [u8; 32]
     requires { ⌜ length (now destination) ≤ longestId ⌝ }
     ensures { λ r. ⌜ r ≡ sideSecret number (now (destination .entry)) (sideOf side) ⌝ }
 {
-    let salt = version::salt(number);
+    let salt = versions::salt(number);
     let initial = hkdf::extract(&salt, destination);
     let mut secret = [0u8; 32];
     match side {
@@ -101,7 +100,7 @@ fn blank() -> Keys
 pub fn initial_keys(number: u32, destination: &[u8], side: Side) -> InitialKeys
     ensures { λ r. ⌜ InitialKeysMade number (now (destination .entry)) side r ⌝ }
 {
-    if !version::is_known(number) {
+    if !versions::is_known(number) {
         return InitialKeys {
             refused: refusal::VERSION,
             keys: blank(),

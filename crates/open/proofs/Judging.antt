@@ -10,10 +10,11 @@ use Rattle.octets.specs.Octets.{bytes, number as spells}
 use Rattle.octets.proofs.Numbers.{byte-power, number-back}
 use Rattle.numbers.specs.Numbers.{numbers}
 use Rattle.numbers_recovery.specs.Recovery.{decoded, recovered}
-use Rattle.wire.specs.Versions.{known}
-use Rattle.wire.specs.Header.{Header, header, tagLength}
+use Rattle.versions.specs.Versions.{known}
+use Rattle.header_initial.specs.InitialHeader.{Header, header}
+use Rattle.header_fields.specs.Fields.{tagLength}
 use Rattle.numbers.specs.declared.FullPn.{FullPn}
-use Rattle.wire.proofs.Headers.{header-there}
+use Rattle.header_initial.proofs.InitialHeaders.{header-there}
 use Rattle.packets.specs.Protection.{Keys}
 use Rattle.packets.specs.Packet.{opened}
 use Rattle.packets.specs.AesGcm.{aesGcm}

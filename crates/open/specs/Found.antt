@@ -7,7 +7,8 @@ use lib.ListN.{length}
 use Rattle.octets.specs.Outcome.{refused, given, unless, _>>_}
 use Rattle.octets.specs.Octets.{bytes, begun, same}
 use Rattle.numbers.specs.Numbers.{numbers, window}
-use Rattle.wire.specs.Header.{limit, leastLength, tagLength}
+use Rattle.header_long.specs.LongHeader.{limit}
+use Rattle.header_fields.specs.Fields.{leastLength, tagLength}
 use Rattle.gcm_counter.specs.Counter.{stream, streamBy}
 use Rattle.gcm.specs.Gcm.{tag, tagBy, hashKey}
 use Rattle.packets.specs.Protection.{Keys, nonce}

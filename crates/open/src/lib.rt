@@ -1,4 +1,8 @@
 // Opening: RFC 9001 section 5, as document 01 has it read.
+use header_fields::TAG_LENGTH;
+use header_initial::Reading;
+use header_initial::read_initial;
+use header_long::Wanted;
 use numbers::FullPn;
 use numbers::NUMBERS;
 use numbers::TruncatedPn;
@@ -6,10 +10,6 @@ use numbers_recovery::Recovered;
 use numbers_recovery::recover;
 use octets::refusal;
 use packets::Keys;
-use wire::header::Reading;
-use wire::header::TAG_LENGTH;
-use wire::header::Wanted;
-use wire::header::read_initial;
 ghost use mathlib.Core.Path.{_≡_};
 ghost use Prim.Native.Nat.{_+_, _<_, _≤_, max};
 ghost use lib.ListN.{length};
@@ -93,7 +93,7 @@ fn find(keys: Keys, expected: u64, datagram: &[u8], room: usize) -> Finding
         return Finding::Refused(refusal::RANGE);
     }
     let version = keys.version;
-    if !wire::version::is_known(version) {
+    if !versions::is_known(version) {
         return Finding::Refused(refusal::VERSION);
     }
     let header = match read_initial(datagram, Wanted::Only(version)) {

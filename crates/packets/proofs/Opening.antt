@@ -16,10 +16,11 @@ use Rattle.octets.proofs.Bytes.{part-bytes, drop-bytes, xor-bytes}
 use Rattle.octets.proofs.Numbers.{number-below}
 use Rattle.numbers.specs.Numbers.{numbers, window}
 use Rattle.numbers_recovery.specs.Recovery.{decoded, recovered}
-use Rattle.wire.specs.Versions.{known}
-use Rattle.wire.specs.Header.{Header, header, leastLength, tagLength}
+use Rattle.versions.specs.Versions.{known}
+use Rattle.header_initial.specs.InitialHeader.{Header, header}
+use Rattle.header_fields.specs.Fields.{leastLength, tagLength}
 use Rattle.numbers_recovery.proofs.Recovery.{recover-range, recover-given}
-use Rattle.wire.proofs.Headers.{header-there}
+use Rattle.header_initial.proofs.InitialHeaders.{header-there}
 use Rattle.packets.specs.Suite.{Suite}
 use Rattle.packets.specs.Protection.{Keys, nonce, onFirst, onNumber, sampleOf}
 use Rattle.packets.specs.Packet.{maskOf, Opened, unprotected, opened}

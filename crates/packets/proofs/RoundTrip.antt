@@ -16,12 +16,12 @@ use Rattle.octets.proofs.Numbers.{byte-power, number-bytes}
 use Rattle.octets.proofs.Xor.{xor-twice, xor-undone}
 use Rattle.numbers.specs.Numbers.{numbers}
 use Rattle.numbers_recovery.specs.Recovery.{decoded, Near}
-use Rattle.wire.specs.Versions.{version}
-use Rattle.wire.specs.Header.{limit}
-use Rattle.writing.specs.Written.{Plain, firstByte, fields, lengthOf, front, plainHeader}
+use Rattle.versions.specs.Versions.{version}
+use Rattle.header_long.specs.LongHeader.{limit}
+use Rattle.header_writing.specs.Written.{Plain, firstByte, fields, lengthOf, front, plainHeader}
 use Rattle.numbers_recovery.proofs.Recovery.{recovery}
-use Rattle.writing.proofs.Places.{At, past, part-at}
-use Rattle.writing.proofs.HeaderBack.{Written, numberAt, at-number, number-place, header-read}
+use Rattle.header_writing.proofs.Places.{At, past, part-at}
+use Rattle.header_writing.proofs.HeaderBack.{Written, numberAt, at-number, number-place, header-read}
 use Rattle.packets.specs.Suite.{Suite, Laws}
 use Rattle.packets.specs.Protection.{Keys, nonce, onFirst, onNumber, sampleOf}
 use Rattle.packets.specs.Packet.{opened}

@@ -12,12 +12,13 @@ use Rattle.octets.specs.Octets.{bytes}
 use Rattle.octets.proofs.Outcome.{passed, stepped, both, given-same}
 use Rattle.octets.proofs.Numbers.{bytes-length}
 use Rattle.octets.proofs.Xor.{xor-length}
-use Rattle.wire.specs.Versions.{known}
+use Rattle.versions.specs.Versions.{known}
 use Rattle.numbers_shortening.specs.Shortening.{Acknowledged, ahead, gap, shortened}
 use Rattle.numbers.specs.Numbers.{numbers}
-use Rattle.wire.specs.Header.{limit, longestId}
-use Rattle.writing.specs.Written.{Plain, two, smallest, longFields, initialFields, firstByte, lengthOf, fields, front, plainHeader}
-use Rattle.writing.proofs.Forms.{two-bytes, long-length}
+use Rattle.header_long.specs.LongHeader.{limit}
+use Rattle.header_fields.specs.Fields.{longestId}
+use Rattle.header_writing.specs.Written.{Plain, two, smallest, longFields, initialFields, firstByte, lengthOf, fields, front, plainHeader}
+use Rattle.header_writing.proofs.Forms.{two-bytes, long-length}
 use Rattle.packets.specs.Suite.{Suite, Laws}
 use Rattle.packets.specs.Protection.{Keys, nonce, onFirst, onNumber, sampleOf}
 use Rattle.packets.specs.Packet.{maskOf, bodyWith, bodyOf, packetOf, sealed}

@@ -5,8 +5,9 @@ use mathlib.Core.Bool.{true}
 use lib.Dec.{leb}
 use lib.ListN.{length, take, drop}
 use Rattle.octets.specs.Outcome.{Outcome, given, unless, _>>=_, _>>_}
-use Rattle.wire.specs.Versions.{version}
-use Rattle.wire.specs.Header.{Place, behind, longestId, whole, long, tagLength}
+use Rattle.versions.specs.Versions.{version}
+use Rattle.header_fields.specs.Fields.{Place, behind, longestId, whole, tagLength}
+use Rattle.header_long.specs.LongHeader.{long}
 use Rattle.octets.specs.Octets.{same}
 use Rattle.retry_tag.specs.Tag.{retryTag}
 

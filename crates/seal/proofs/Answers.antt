@@ -8,10 +8,11 @@ use lib.ListN.{length}
 use Rattle.octets.specs.Outcome.{refused, given}
 use Rattle.octets.specs.Octets.{begun}
 use Rattle.octets.proofs.Buffers.{refused-placed, given-placed}
-use Rattle.wire.specs.Versions.{known}
+use Rattle.versions.specs.Versions.{known}
 use Rattle.numbers_shortening.specs.Shortening.{Acknowledged, shortened}
-use Rattle.wire.specs.Header.{limit, longestId}
-use Rattle.writing.specs.Written.{Plain}
+use Rattle.header_long.specs.LongHeader.{limit}
+use Rattle.header_fields.specs.Fields.{longestId}
+use Rattle.header_writing.specs.Written.{Plain}
 use Rattle.packets.specs.Protection.{Keys}
 use Rattle.packets.specs.Packet.{packetOf, sealed}
 use Rattle.packets.specs.AesGcm.{aesGcm}

@@ -5,7 +5,7 @@ use mathlib.Core.List.{List}
 use Rattle.octets.specs.Outcome.{Outcome, refused, given}
 use Rattle.octets.proofs.Outcome.{once}
 use Rattle.numbers_shortening.specs.Shortening.{Acknowledged}
-use Rattle.writing.specs.Written.{Plain}
+use Rattle.header_writing.specs.Written.{Plain}
 use Rattle.packets.specs.Protection.{Keys}
 use Rattle.seal.specs.declared.Sealing.{Sealing}
 use Rattle.seal.specs.declared.Sealing.the-variants as Sealing

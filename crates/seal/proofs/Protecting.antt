@@ -9,7 +9,7 @@ use Rattle.octets.specs.Octets.{bytes, part, laid, begun}
 use Rattle.octets.proofs.Parts.{part-front, regroup}
 use Rattle.octets.proofs.Buffers.{begun-front, goes-on}
 use Rattle.aes128.specs.Cipher.{cipher}
-use Rattle.writing.specs.Written.{Plain, smallest, initialFields, firstByte, fields, front, plainHeader}
+use Rattle.header_writing.specs.Written.{Plain, smallest, initialFields, firstByte, fields, front, plainHeader}
 use Rattle.packets.specs.Protection.{Keys, nonce, onFirst, onNumber, sampleOf, masked}
 use Rattle.packets.specs.Packet.{bodyWith, bodyOf, packetOf}
 use Rattle.packets.specs.AesGcm.{aesGcm}

@@ -6,8 +6,9 @@ use lib.ListN.{length}
 use Rattle.octets.specs.Outcome.{Outcome, refused, given}
 use Rattle.octets.specs.Octets.{begun, placed, lengthGiven}
 use Rattle.numbers_shortening.specs.Shortening.{Acknowledged}
-use Rattle.wire.specs.Header.{limit, longestId}
-use Rattle.writing.specs.Written.{Plain, smallest, lengthOf, front, plainHeader}
+use Rattle.header_long.specs.LongHeader.{limit}
+use Rattle.header_fields.specs.Fields.{longestId}
+use Rattle.header_writing.specs.Written.{Plain, smallest, lengthOf, front, plainHeader}
 use Rattle.packets.specs.Protection.{Keys}
 use Rattle.packets.specs.Packet.{sealed}
 use Rattle.packets.specs.AesGcm.{aesGcm}

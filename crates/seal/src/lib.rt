@@ -1,20 +1,20 @@
 // Sealing: RFC 9001 section 5, as document 01 has it written.
+use header_fields::LONGEST_ID;
+use header_fields::TAG_LENGTH;
+use header_long::LIMIT;
 use numbers::FullPn;
 use numbers_shortening::Acknowledged;
 use numbers_shortening::Shortened;
 use numbers_shortening::shorten;
 use octets::refusal;
 use packets::Keys;
-use wire::header::LIMIT;
-use wire::header::LONGEST_ID;
-use wire::header::TAG_LENGTH;
 ghost use mathlib.Core.Path.{_≡_};
 ghost use Prim.Native.Nat.{_+_, _-_, _<_, _≤_};
 ghost use lib.ListN.{length, take};
 ghost use Rattle.octets.specs.Octets.{begun, laid, part};
 ghost use Rattle.gcm.specs.Gcm.{tagBy, hashKey};
-ghost use Rattle.wire.specs.Header.{limit};
-ghost use Rattle.writing.specs.Written.{smallest};
+ghost use Rattle.header_long.specs.LongHeader.{limit};
+ghost use Rattle.header_writing.specs.Written.{smallest};
 ghost use Rattle.numbers_shortening.specs.Answers.{acknowledgedOf};
 ghost use Rattle.packets.specs.KeyRecord.{keysOf};
 ghost use Rattle.packets.specs.Protection.{masked};
@@ -42,9 +42,17 @@ fn write_header(
     requires { ⌜ Writable (record { destination = now destination; source = now source; token = now token; payload = now payload; packetNumber = number; numberLength = count }) (now buffer) ⌝ }
     ensures { λ r. ⌜ HeaderWritten version (record { destination = now (destination .entry); source = now (source .entry); token = now (token .entry); payload = now (payload .entry); packetNumber = number; numberLength = count }) (now (buffer .entry)) (now (buffer .exit)) r ⌝ }
 {
-    let first = 0xc0 + wire::version::initial_type(version) * 16 + (count - 1) as u8;
+    let first = 0xc0 + versions::initial_type(version) * 16 + (count - 1) as u8;
     let counted = count + payload.len() + TAG_LENGTH;
-    let place = writing::write_initial(buffer, first, version, destination, source, token, counted);
+    let place = header_writing::write_initial(
+        buffer,
+        first,
+        version,
+        destination,
+        source,
+        token,
+        counted,
+    );
     octets::store(buffer, place, count, number);
     place
 }
@@ -138,7 +146,7 @@ fn size_of(count: usize, destination: usize, source: usize, token: usize, payloa
     9
         + destination
         + source
-        + writing::smallest_form(token)
+        + header_writing::smallest_form(token)
         + token
         + (count + payload + TAG_LENGTH)
 }
@@ -157,7 +165,7 @@ pub fn seal(
 ) -> Sealing
     ensures { λ r. ⌜ Seal (keysOf keys) (acknowledgedOf acknowledged) (record { destination = now (destination .entry); source = now (source .entry); token = now (token .entry); payload = now (payload .entry); packetNumber = number .0; numberLength = count }) (now (out .entry)) r (now (out .exit)) ⌝ }
 {
-    if !wire::version::is_known(keys.version) {
+    if !versions::is_known(keys.version) {
         return Sealing::Refused(refusal::VERSION);
     }
     match shorten(number, acknowledged, count) {

@@ -1,11 +1,11 @@
 // Header reading: the server's packet of RFC 9001 appendix A.3, with one byte changed at a time and so many bytes of it.
 use crate::print;
-use wire::header::Place;
-use wire::header::Reading;
-use wire::header::header_destination;
-use wire::header::header_source;
-use wire::header::header_token;
-use wire::header::read_header;
+use header_fields::Place;
+use header_initial::Reading;
+use header_initial::read_header;
+use header_parts::header_destination;
+use header_parts::header_source;
+use header_parts::header_token;
 ghost use Prim.Native.Nat.{_≤_};
 
 fn place(name: &[u8], found: Place) {

@@ -1,6 +1,6 @@
 // What is answered: a row for each value, and a refusal by its number and its words.
+use header_fields::Place;
 use octets::refusal;
-use wire::header::Place;
 
 // The width of a row's label.
 const LABEL: usize = 15;

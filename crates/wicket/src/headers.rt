@@ -1,12 +1,12 @@
 // wicket header.
 use crate::answers;
 use crate::fields;
-use wire::header::Header;
-use wire::header::Reading;
-use wire::header::header_destination;
-use wire::header::header_source;
-use wire::header::header_token;
-use wire::header::read_header;
+use header_initial::Header;
+use header_initial::Reading;
+use header_initial::read_header;
+use header_parts::header_destination;
+use header_parts::header_source;
+use header_parts::header_token;
 
 // The fields of a header that was read from a datagram.
 fn read(header: Header, datagram: &[u8]) {

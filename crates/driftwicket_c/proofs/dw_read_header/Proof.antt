@@ -1,7 +1,7 @@
 -- A refusal is told by its number alone, and what is given by its numbers.
 use mathlib.Core.Path.{sym, ap, _∙_}
 use borrow.Author.Needs.{needs}
-use Rattle.wire.specs.HeaderAnswers.{readingAnswer}
+use Rattle.header_initial.specs.Answers.{readingAnswer}
 use Rattle.driftwicket_c.proofs.Answering.{refusing, giving}
 use Rattle.driftwicket_c.proofs.dw_read_header.Statement.{statement}
 use Rattle.driftwicket_c.proofs.dw_read_header.Tie as tie

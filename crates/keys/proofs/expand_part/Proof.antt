@@ -1,8 +1,8 @@
 -- Each label is the version's own.
 use borrow.Author.Needs.{needs}
 use Rattle.octets.specs.Text.{ascii}
-use Rattle.wire.specs.Versions.{version1, draft2}
-use Rattle.wire.proofs.Versions.{version-one, version-other}
+use Rattle.versions.specs.Versions.{version1, draft2}
+use Rattle.versions.proofs.Versions.{version-one, version-other}
 use Rattle.keys.proofs.expand_part.Statement.{statement}
 use Rattle.keys.proofs.expand_part.Tie as tie
 

@@ -5,8 +5,8 @@ use borrow.Author.Tests.{not-true, not-false}
 use native.Mathlib.Omega.{arith}
 use lib.Dec.{eqb}
 use Rattle.numbers_recovery.specs.Answers.{recoveredAnswer}
-use Rattle.wire.specs.HeaderAnswers.{readingAnswer}
-use Rattle.wire.proofs.Headers.{header-there}
+use Rattle.header_initial.specs.Answers.{readingAnswer}
+use Rattle.header_initial.proofs.InitialHeaders.{header-there}
 use Rattle.packets.specs.KeyRecord.{keysOf}
 use Rattle.packets.specs.AesGcm.{aesGcm}
 use Rattle.packets.proofs.Opening.{open-expected, open-version, open-header, open-room, open-reserved}

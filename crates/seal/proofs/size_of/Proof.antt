@@ -1,7 +1,7 @@
 -- Each part is at most the limit, so no sum leaves a word.
 use borrow.Author.Needs.{needs}
 use native.Mathlib.Omega.{arith}
-use Rattle.writing.proofs.Forms.{smallest-few}
+use Rattle.header_writing.proofs.Forms.{smallest-few}
 use Rattle.seal.proofs.size_of.Statement.{statement}
 use Rattle.seal.proofs.size_of.Tie as tie
 

@@ -6,8 +6,8 @@ use native.Mathlib.Omega.{arith}
 use lib.ListN.{length}
 use Rattle.octets.specs.Octets.{bytes}
 use Rattle.octets.proofs.Buffers.{goes-on}
-use Rattle.writing.specs.Written.{firstByte, initialFields}
-use Rattle.wire.proofs.Versions.{initial-fits}
+use Rattle.header_writing.specs.Written.{firstByte, initialFields}
+use Rattle.versions.proofs.Versions.{initial-fits}
 use Rattle.seal.proofs.Protecting.{fields-end}
 use Rattle.seal.proofs.write_header.Statement.{statement}
 use Rattle.seal.proofs.write_header.Tie as tie

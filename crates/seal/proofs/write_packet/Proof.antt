@@ -6,7 +6,7 @@ use borrow.Author.Needs.{needs}
 use native.Mathlib.Omega.{arith}
 use lib.ListN.{take}
 use Rattle.octets.specs.Octets.{laid}
-use Rattle.writing.specs.Written.{Plain}
+use Rattle.header_writing.specs.Written.{Plain}
 use Rattle.packets.specs.KeyRecord.{keysOf}
 use Rattle.packets.specs.Packet.{bodyWith}
 use Rattle.packets.specs.AesGcm.{aesGcm}
