@@ -16,7 +16,8 @@ use Rattle.hkdf.specs.Hkdf.{T, Ts, expand, info, expandLabel}
 use Rattle.versions.specs.Versions.{known, version}
 use Rattle.header_fields.specs.Fields.{longestId}
 use Rattle.packets.specs.Protection.{Keys}
-use Rattle.keys.specs.InitialKeys.{Side, sideSecret, keysFrom, initialKeys}
+use Rattle.keys.specs.InitialKeys.{Side, sideSecret, initialKeys}
+use Rattle.keys_expansion.specs.Expansion.{keysFrom}
 use Rattle.driftwicket_c.specs.Arguments.{keyBytes, keysIn}
 use Rattle.driftwicket_c.proofs.KeyRecords.{Sized, keys-back}
 
