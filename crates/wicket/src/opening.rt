@@ -2,8 +2,8 @@
 use crate::answers;
 use crate::fields;
 use crate::sealing::keys_of;
-use open::Opened;
 use open::Opening;
+use open_writing::Opened;
 
 // What was opened into a buffer, and the number expected then.
 fn opened(found: Opened, buffer: &[u8], expected: u64) {

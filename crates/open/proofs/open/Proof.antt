@@ -5,7 +5,7 @@ use borrow.Author.Tests.{not-true, not-false}
 use native.Mathlib.Omega.{arith}
 use lib.ListN.{length}
 use Rattle.packets.specs.KeyRecord.{keysOf}
-use Rattle.open.specs.Found.{Finds}
+use Rattle.open_judging.specs.Found.{Finds}
 use Rattle.open.proofs.Answers.{refuses, tag-refused, opens}
 use Rattle.open.proofs.open.Statement.{statement}
 use Rattle.open.proofs.open.Tie as tie
