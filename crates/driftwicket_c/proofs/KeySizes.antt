@@ -16,8 +16,8 @@ use Rattle.versions.specs.Versions.{known, version}
 use Rattle.header_fields.specs.Fields.{longestId}
 use Rattle.packets.specs.Protection.{Keys}
 use Rattle.keys.specs.InitialKeys.{Side, sideSecret, keysFrom, initialKeys}
-use Rattle.driftwicket_c.specs.Arguments.{keyBytes, keysIn}
-use Rattle.driftwicket_c.proofs.KeyRecords.{Sized, keys-back}
+use Rattle.c_key_record.specs.Layout.{keyBytes, keysIn}
+use Rattle.c_key_record.proofs.KeyRecords.{Sized, keys-back}
 
 -- ---- FIPS 180-4: a hash value has eight words
 eight-words : (h : List ℕ) (blocks : List (List ℕ)) → length h ≡ 8 → length (foldl compressed h blocks) ≡ 8
