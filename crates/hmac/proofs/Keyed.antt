@@ -1,15 +1,31 @@
--- RFC 2104 section 2: a keyed block, as it is laid down, and the hash behind it.
-use Prim.Native.Nat.{ℕ, zero, suc, _+_, _-_, _≤_}
+-- RFC 2104 section 2: the actual key, and a keyed block as it is laid down.
+use Prim.Native.Nat.{ℕ, zero, suc, _+_, _-_, _≤_, _<_}
 use mathlib.Core.List.{List, [], _∷_, _++_}
 use mathlib.Core.Path.{_≡_, refl, sym, ap, ap₂, _∙_}
 use native.Mathlib.Nat.{not-suc-le-zero, le-of-suc-le-suc}
 use native.Mathlib.Omega.{arith}
+use borrow.Author.Tests.{le-leb, lt-leb}
 use lib.Bits.{bitXor, xor-zero-l}
 use lib.ListN.{length, drop, replicate, length-append, length-replicate}
 use Rattle.octets.specs.Octets.{xor, laid}
 use Rattle.octets.proofs.Xor.{xor-length}
-use Rattle.hkdf.specs.Hkdf.{keyBlock, keyed}
+use Rattle.sha256.specs.Sha256.{hash}
+use Rattle.hmac.specs.Hmac.{actualKey, keyBlock, keyed, ipad, opad, hmac}
 
+-- ---- the actual key
+pub key-as-it-is : (key : List ℕ) → length key ≤ 64 → actualKey key ≡ key
+unfolding actualKey
+key-as-it-is key l = rw (le-leb (length key) 64 l)
+
+pub key-hashed : (key : List ℕ) → 64 < length key → actualKey key ≡ hash key
+unfolding actualKey
+key-hashed key l = rw (lt-leb (length key) 64 l)
+
+pub hmac-is : (key actual text : List ℕ) → actual ≡ actualKey key → hash (keyed actual opad ++ hash (keyed actual ipad ++ text)) ≡ hmac key text
+unfolding hmac
+hmac-is key actual text is = ap (λ (k : List ℕ). hash (keyed k opad ++ hash (keyed k ipad ++ text))) is
+
+-- ---- a keyed block
 zeros-masked : (n pad : ℕ) → replicate n pad ≡ xor (replicate n 0) (replicate n pad)
 unfolding xor
 zeros-masked zero pad = refl

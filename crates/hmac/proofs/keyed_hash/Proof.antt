@@ -5,25 +5,10 @@ use mathlib.Core.Path.{ap, ap₂, _∙_}
 use borrow.Author.Needs.{needs}
 use Rattle.sha256.specs.Sha256.{compressed, finished}
 use Rattle.sha256.proofs.Blocks.{hash-behind}
-use Rattle.hkdf.specs.Hkdf.{keyed}
-use Rattle.hkdf.proofs.Keyed.{keyed-length}
-use Rattle.hkdf.proofs.keyed_hash.Statement.{statement}
-use Rattle.hkdf.proofs.keyed_hash.Tie as tie
-
-keyed-block-requires : tie.Need-keyed-block-requires
-keyed-block-requires c κs = search needs
-
-initial-requires : tie.Need-initial-requires
-initial-requires c κs = search needs
-
-slice-aggregate-compress : tie.Need-slice-aggregate-compress
-slice-aggregate-compress c = search needs
-
-compress-requires : tie.Need-compress-requires
-compress-requires c κs = search needs
-
-finish-requires : tie.Need-finish-requires
-finish-requires c κs = search needs
+use Rattle.hmac.specs.Hmac.{keyed}
+use Rattle.hmac.proofs.Keyed.{keyed-length}
+use Rattle.hmac.proofs.keyed_hash.Statement.{statement}
+use Rattle.hmac.proofs.keyed_hash.Tie as tie
 
 returns : tie.Need-returns
 returns c =
@@ -38,9 +23,9 @@ pub keyed-hash-spec : {M : Type 1} → statement M
 keyed-hash-spec =
     tie.close
     (tie.spec
-    keyed-block-requires
-    initial-requires
-    slice-aggregate-compress
-    compress-requires
-    finish-requires
+    (λ c κs. search needs)
+    (λ c κs. search needs)
+    (λ c. search needs)
+    (λ c κs. search needs)
+    (λ c κs. search needs)
     returns)
