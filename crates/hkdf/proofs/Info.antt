@@ -9,7 +9,8 @@ use Rattle.octets.specs.Octets.{bytes, laid, begun}
 use Rattle.octets.proofs.Numbers.{bytes-length}
 use Rattle.octets.proofs.Buffers.{laid-all, begun-more}
 use Rattle.octets.specs.Text.{ascii}
-use Rattle.hkdf.specs.Hkdf.{hmac, T, Ts, expand, tls13, info, expandLabel}
+use Rattle.hmac.specs.Hmac.{hmac}
+use Rattle.hkdf.specs.Hkdf.{T, Ts, expand, tls13, info, expandLabel}
 
 -- ---- RFC 5869 section 2.3
 -- a text at a buffer's start, and a one behind it

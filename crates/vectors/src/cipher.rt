@@ -4,7 +4,7 @@ use crate::print;
 ghost use Prim.Native.Nat.{_≤_};
 ghost use lib.ListN.{length};
 
-// The first block of two words, encrypted under the other: KEY BLOCK.
+// A block encrypted under a key: KEY BLOCK.
 fn encrypted(line: &[u8]) -> [u8; 16] {
     let mut key = [0u8; 16];
     fields::bytes(line, 1, &mut key);

@@ -1,5 +1,5 @@
-// The words of a call that stand for bytes. They are hex, and - is no bytes; 55:3:7 is 55 bytes, the first of them 3 and each 7 above the one
-// before it, modulo 256.
+// The words of a call that stand for bytes. They are hex, and - is no bytes; 55:3:7 is 55 bytes, the first of them 3 and each 7
+// above the one before it, modulo 256.
 use console::fields::END;
 use console::fields::number;
 use console::fields::value;

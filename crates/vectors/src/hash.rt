@@ -33,16 +33,16 @@ pub fn sha256_blocks(line: &[u8]) {
 
 // hmac KEY TEXT
 pub fn hmac(line: &[u8]) {
-    let mut key = [0u8; 64];
+    let mut key = io::buffer();
     let key_length = fields::bytes(line, 1, &mut key);
     let mut text = io::buffer();
     let length = fields::bytes(line, 2, &mut text);
-    print::bytes(&hkdf::hmac(&key[..key_length], &text[..length]));
+    print::bytes(&hmac::hmac(&key[..key_length], &text[..length]));
 }
 
 // extract SALT IKM
 pub fn extract(line: &[u8]) {
-    let mut salt = [0u8; 64];
+    let mut salt = io::buffer();
     let salt_length = fields::bytes(line, 1, &mut salt);
     let mut ikm = io::buffer();
     let length = fields::bytes(line, 2, &mut ikm);

@@ -53,7 +53,7 @@ fn open_into(line: &[u8], out: &mut [u8]) {
     }
 }
 
-// open VERSION ID client|server EXPECTED ROOM DATAGRAM [PLACE BYTE SIZE]
+// open VERSION ID client|server EXPECTED ROOM DATAGRAM [PLACE BYTE SIZE], into a buffer of bytes 0xaa
 pub fn open(line: &[u8]) {
     let mut out = [0xaau8; 4096];
     let room = fields::room(line, 5, &out);

@@ -8,28 +8,10 @@ use lib.ListN.{length, take, replicate, length-take, length-append}
 use lib.Seq.{length-take-le}
 use Rattle.octets.specs.Octets.{bytes, laid}
 use Rattle.octets.proofs.Buffers.{begun-front}
-use Rattle.hkdf.specs.Hkdf.{hmac}
+use Rattle.hmac.specs.Hmac.{hmac}
 use Rattle.hkdf.proofs.Info.{text-written, first-block}
 use Rattle.hkdf.proofs.expand.Statement.{statement}
 use Rattle.hkdf.proofs.expand.Tie as tie
-
-add-end : tie.Need-add-end
-add-end c = search needs
-
-slice-aggregate-copy : tie.Need-slice-aggregate-copy
-slice-aggregate-copy c = search needs
-
-copy-requires : tie.Need-copy-requires
-copy-requires c κs = search needs
-
-slice-aggregate-store : tie.Need-slice-aggregate-store
-slice-aggregate-store c = search needs
-
-store-requires : tie.Need-store-requires
-store-requires c κs = search needs
-
-array-share-prefix-text : tie.Need-array-share-prefix-text
-array-share-prefix-text c = search needs
 
 slice-aggregate-hmac : tie.Need-slice-aggregate-hmac
 slice-aggregate-hmac c =
@@ -53,12 +35,12 @@ pub expand-spec : {M : Type 1} → statement M
 expand-spec =
     tie.close
     (tie.spec
-    add-end
-    slice-aggregate-copy
-    copy-requires
-    slice-aggregate-store
-    store-requires
-    array-share-prefix-text
+    (λ c. search needs)
+    (λ c. search needs)
+    (λ c κs. search needs)
+    (λ c. search needs)
+    (λ c κs. search needs)
+    (λ c. search needs)
     slice-aggregate-hmac
     hmac-requires
     returns)

@@ -11,33 +11,6 @@ use Rattle.hkdf.proofs.Info.{info-written}
 use Rattle.hkdf.proofs.write_info.Statement.{statement}
 use Rattle.hkdf.proofs.write_info.Tie as tie
 
-add-whole : tie.Need-add-whole
-add-whole c = search needs
-
-store-requires : tie.Need-store-requires
-store-requires c κs = search needs
-
-store-requires-2 : tie.Need-store-requires-2
-store-requires-2 c κs = search needs
-
-slice-aggregate-copy : tie.Need-slice-aggregate-copy
-slice-aggregate-copy c = search needs
-
-copy-requires : tie.Need-copy-requires
-copy-requires c κs = search needs
-
-copy-requires-2 : tie.Need-copy-requires-2
-copy-requires-2 c κs = search needs
-
-add-store : tie.Need-add-store
-add-store c = search needs
-
-store-requires-3 : tie.Need-store-requires-3
-store-requires-3 c κs = search needs
-
-same-length : tie.Need-same-length
-same-length c = search needs
-
 returns : tie.Need-returns
 unfolding tls13 ascii
 returns c =
@@ -54,13 +27,13 @@ pub write-info-spec : {M : Type 1} → statement M
 write-info-spec =
     tie.close
     (tie.spec
-    add-whole
-    store-requires
-    store-requires-2
-    slice-aggregate-copy
-    copy-requires
-    copy-requires-2
-    add-store
-    store-requires-3
-    same-length
+    (λ c. search needs)
+    (λ c κs. search needs)
+    (λ c κs. search needs)
+    (λ c. search needs)
+    (λ c κs. search needs)
+    (λ c κs. search needs)
+    (λ c. search needs)
+    (λ c κs. search needs)
+    (λ c. search needs)
     returns)
