@@ -3,6 +3,7 @@
 use driftwicket::Refusal;
 
 const HEADER: &str = include_str!("../../../include/driftwicket.h");
+const TERMINAL: &str = include_str!("../../../crates/console/src/answers.rt");
 
 /// The first text between quotation marks behind a mark.
 fn quoted<'t>(text: &'t str, mark: &str) -> &'t str {
@@ -29,4 +30,11 @@ fn the_header_has_the_same_numbers_and_words() {
         assert!(HEADER.contains(&format!("DW_REFUSED_{name} = {}", refusal.number())), "{name}");
         assert_eq!(quoted(HEADER, &format!("case DW_REFUSED_{name}: return")), refusal.words());
     }
+}
+
+#[test]
+fn the_terminal_has_the_same_words() {
+    let table = TERMINAL.lines().skip_while(|line| !line.starts_with("const WORDS")).skip(1);
+    let words: Vec<_> = table.take(Refusal::ALL.len()).map(|line| line.split("\\n").next()).collect();
+    assert_eq!(words, Refusal::ALL.map(|refusal| Some(refusal.words())));
 }
