@@ -7,9 +7,9 @@ use lib.ListN.{take, length-take, length-drop}
 use lib.Seq.{length-take-le}
 use Rattle.octets.specs.Octets.{part}
 use Rattle.gcm.specs.Gcm.{tagBy}
-use Rattle.seal.proofs.Bodies.{one-piece}
-use Rattle.seal.proofs.tag_over.Statement.{statement}
-use Rattle.seal.proofs.tag_over.Tie as tie
+use Rattle.seal_body.proofs.Bodies.{one-piece}
+use Rattle.seal_body.proofs.tag_over.Statement.{statement}
+use Rattle.seal_body.proofs.tag_over.Tie as tie
 
 hash-key-requires : tie.Need-hash-key-requires
 hash-key-requires c κs = search needs

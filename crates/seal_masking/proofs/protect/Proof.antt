@@ -5,9 +5,9 @@ use borrow.Author.Needs.{needs}
 use native.Mathlib.Omega.{arith}
 use lib.ListN.{take, replicate}
 use lib.Seq.{length-take-le}
-use Rattle.seal.proofs.Masking.{number-taken, rest-length, mask-laid}
-use Rattle.seal.proofs.protect.Statement.{statement}
-use Rattle.seal.proofs.protect.Tie as tie
+use Rattle.seal_masking.proofs.Masking.{number-taken, rest-length, mask-laid}
+use Rattle.seal_masking.proofs.protect.Statement.{statement}
+use Rattle.seal_masking.proofs.protect.Tie as tie
 
 add-end : tie.Need-add-end
 add-end c = search needs

@@ -6,9 +6,9 @@ use native.Mathlib.Omega.{arith}
 use Rattle.numbers_shortening.specs.Answers.{acknowledgedOf, shortenedAnswer}
 use Rattle.packets.specs.AesGcm.{aesGcm}
 use Rattle.packets.proofs.Sealing.{seal-version, seal-number, seal-destination, seal-source, seal-short, shortening}
-use Rattle.seal.proofs.Answers.{refuse, refuse-size, refuse-room, written}
-use Rattle.seal.proofs.seal.Statement.{statement}
-use Rattle.seal.proofs.seal.Tie as tie
+use Rattle.seal_judging.proofs.Answers.{refuse, refuse-size, refuse-room, written}
+use Rattle.seal_judging.proofs.judge.Statement.{statement}
+use Rattle.seal_judging.proofs.judge.Tie as tie
 
 is-known-requires : tie.Need-is-known-requires
 is-known-requires c κs = search needs

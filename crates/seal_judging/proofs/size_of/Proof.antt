@@ -2,8 +2,8 @@
 use borrow.Author.Needs.{needs}
 use native.Mathlib.Omega.{arith}
 use Rattle.header_writing.proofs.Forms.{smallest-few}
-use Rattle.seal.proofs.size_of.Statement.{statement}
-use Rattle.seal.proofs.size_of.Tie as tie
+use Rattle.seal_judging.proofs.size_of.Statement.{statement}
+use Rattle.seal_judging.proofs.size_of.Tie as tie
 
 add-result : tie.Need-add-result
 add-result c = search needs

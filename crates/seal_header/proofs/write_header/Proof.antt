@@ -8,9 +8,9 @@ use Rattle.octets.specs.Octets.{bytes}
 use Rattle.octets.proofs.Buffers.{goes-on}
 use Rattle.header_writing.specs.Written.{firstByte, initialFields}
 use Rattle.versions.proofs.Versions.{initial-fits}
-use Rattle.seal.proofs.Protecting.{fields-end}
-use Rattle.seal.proofs.write_header.Statement.{statement}
-use Rattle.seal.proofs.write_header.Tie as tie
+use Rattle.seal_header.proofs.Ends.{fields-end}
+use Rattle.seal_header.proofs.write_header.Statement.{statement}
+use Rattle.seal_header.proofs.write_header.Tie as tie
 
 initial-type-requires : tie.Need-initial-type-requires
 initial-type-requires c κs = search needs

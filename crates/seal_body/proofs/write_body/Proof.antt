@@ -1,9 +1,9 @@
 -- The ciphertext, and behind it the tag.
 use borrow.Author.Needs.{needs}
 use native.Mathlib.Omega.{arith}
-use Rattle.seal.proofs.Bodies.{body-laid}
-use Rattle.seal.proofs.write_body.Statement.{statement}
-use Rattle.seal.proofs.write_body.Tie as tie
+use Rattle.seal_body.proofs.Bodies.{body-laid}
+use Rattle.seal_body.proofs.write_body.Statement.{statement}
+use Rattle.seal_body.proofs.write_body.Tie as tie
 
 expand-key-requires : tie.Need-expand-key-requires
 expand-key-requires c κs = search needs
