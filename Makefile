@@ -91,11 +91,11 @@ bench: bench-needs lib ## the library's speed beside OpenSSL's, where that is in
 bench-needs:
 	@tools/bench --needs
 
-# The library against programs that share nothing with it, ngtcp2 and tshark: interop/README.md. What is missing is said
-# before the library is proved.
+# The library against programs that share nothing with it, ngtcp2, quic-go and tshark: interop/README.md. What is missing is
+# said before the library is proved.
 .PHONY: interop interop-needs
-interop: interop-needs lib ## the library against ngtcp2 and tshark, where they are installed
-	@echo "Exchanging packets with ngtcp2 and letting tshark read them ..."
+interop: interop-needs lib ## the library against ngtcp2, quic-go and tshark, where they are installed
+	@echo "Exchanging packets with other programs, and letting tshark read them ..."
 	@interop/run
 
 interop-needs:

@@ -10,7 +10,7 @@ use Rattle.header_writing.specs.Written.{Plain}
 use Rattle.packets.specs.Protection.{Keys}
 use Rattle.packets.specs.Packet.{Opened}
 use Rattle.seal.specs.Sealing.{Seal}
-use Rattle.seal.specs.declared.Sealing.{Sealing}
+use Rattle.seal_judging.specs.declared.Sealing.{Sealing}
 use Rattle.open.specs.Opening.{Report, reported, Open}
 use Rattle.open.specs.declared.Opening.{Opening}
 use Rattle.driftwicket_c.specs.Promises.{answered, told, Answers, Writes, openedNumbers}

@@ -8,7 +8,7 @@ use lib.ListN.{length, take}
 use lib.Seq.{length-take-le}
 use Rattle.octets.specs.Outcome.{given}
 use Rattle.octets.proofs.Outcome.{passed, given-same}
-use Rattle.sha256.specs.Constants.{H⁰}
+use Rattle.sha256_constants.specs.Constants.{H⁰}
 use Rattle.sha256.specs.Sha256.{padding, blocks, compressed, absorbed, hash}
 use Rattle.sha256.proofs.Digest.{digest-length}
 use Rattle.hkdf.specs.Hkdf.{hmac, T, Ts, expand, info, expandLabel}

@@ -29,7 +29,11 @@ fn keyed_hash(key: &[u8], pad: u8, text: &[u8]) -> [u8; 32]
     ensures { λ r. ⌜ r ≡ hash (keyed (now (key .entry)) pad ++ now (text .entry)) ⌝ }
 {
     let block = keyed_block(key, pad);
-    sha256::finish(sha256::compress(sha256::initial(), &block), 64, text)
+    sha256::finish(
+        sha256::compress(sha256_constants::initial(), &block),
+        64,
+        text,
+    )
 }
 
 // RFC 2104: HMAC of a text, under a key of up to a block.

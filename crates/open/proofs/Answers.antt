@@ -7,8 +7,9 @@ use lib.ListN.{length}
 use Rattle.octets.specs.Outcome.{refused, given}
 use Rattle.octets.specs.Octets.{begun}
 use Rattle.aes_schedule.specs.Expansion.{expansion}
-use Rattle.gcm.specs.Gcm.{stream, streamBy, tag}
-use Rattle.gcm.proofs.Laws.{stream-length}
+use Rattle.gcm_counter.specs.Counter.{stream, streamBy}
+use Rattle.gcm.specs.Gcm.{tag}
+use Rattle.gcm_counter.proofs.Laws.{stream-length}
 use Rattle.packets.specs.Protection.{Keys, nonce}
 use Rattle.packets.specs.Packet.{opened}
 use Rattle.packets.specs.AesGcm.{aesGcm}

@@ -6,7 +6,8 @@ use Rattle.octets.specs.Outcome.{refused, given, unless, _>>_}
 use Rattle.octets.specs.Octets.{same}
 use Rattle.numbers.specs.Numbers.{numbers}
 use Rattle.header_fields.specs.Fields.{tagLength}
-use Rattle.gcm.specs.Gcm.{stream, tag}
+use Rattle.gcm_counter.specs.Counter.{stream}
+use Rattle.gcm.specs.Gcm.{tag}
 use Rattle.packets.specs.Protection.{Keys, nonce}
 use Rattle.packets.specs.Packet.{Opened, opened}
 use Rattle.packets.specs.AesGcm.{aesGcm}

@@ -18,8 +18,8 @@ pub fn tag_matches(schedule: &[u8; 176], nonce: &[u8; 12], datagram: &[u8], pack
     let start = place + count;
     let end = place + packet.length;
     let close = end - TAG_LENGTH;
-    let key = gcm::tag::hash_key(schedule);
-    let tag = gcm::tag::make_tag(
+    let key = gcm::hash_key(schedule);
+    let tag = gcm::make_tag(
         schedule,
         key,
         nonce,
@@ -28,5 +28,5 @@ pub fn tag_matches(schedule: &[u8; 176], nonce: &[u8; 12], datagram: &[u8], pack
         &short[..count],
         &datagram[start..close],
     );
-    gcm::tag::same_tag(&datagram[close..end], &tag)
+    gcm::same_tag(&datagram[close..end], &tag)
 }

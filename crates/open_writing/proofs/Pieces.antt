@@ -8,7 +8,7 @@ use Rattle.octets.specs.Octets.{bytes, part, laid}
 use Rattle.octets.proofs.Parts.{part-length}
 use Rattle.octets.proofs.Numbers.{bytes-length}
 use Rattle.octets.proofs.Buffers.{goes-on}
-use Rattle.gcm.specs.Gcm.{streamBy}
+use Rattle.gcm_counter.specs.Counter.{streamBy}
 use Rattle.open_unmasking.specs.Parts.{Within, plainOf, cipherOf}
 use Rattle.open_unmasking.specs.declared.Packet.{Packet}
 use Rattle.open_unmasking.proofs.Parts.{cipher-is}

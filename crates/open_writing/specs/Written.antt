@@ -4,7 +4,7 @@ use mathlib.Core.Path.{_≡_}
 use mathlib.Core.List.{List, _++_}
 use lib.ListN.{length}
 use Rattle.octets.specs.Octets.{begun}
-use Rattle.gcm.specs.Gcm.{streamBy}
+use Rattle.gcm_counter.specs.Counter.{streamBy}
 use Rattle.open_unmasking.specs.Parts.{plainOf, cipherOf}
 use Rattle.open_unmasking.specs.declared.Packet.{Packet}
 use Rattle.open_writing.specs.declared.Opened as Code

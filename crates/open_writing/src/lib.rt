@@ -38,7 +38,7 @@ pub fn write_opened(
     octets::put(buffer, 0, packet.first);
     octets::copy(buffer, 1, &datagram[1..place]);
     octets::store(buffer, place, count, truncated.0);
-    gcm::counter::crypt(schedule, nonce, &datagram[start..end], buffer, start);
+    gcm_counter::crypt(schedule, nonce, &datagram[start..end], buffer, start);
     Opened {
         number,
         number_length: count,

@@ -14,8 +14,8 @@ pub fn tag_of(number: u32, original: &[u8], packet: &[u8]) -> [u8; 16]
     let key = versions::retry_key(number);
     let nonce = versions::retry_nonce(number);
     let schedule = aes_schedule::expand_key(&key);
-    let hash_key = gcm::tag::hash_key(&schedule);
+    let hash_key = gcm::hash_key(&schedule);
     let count = original.len() as u8;
     let length = [count];
-    gcm::tag::make_tag(&schedule, hash_key, &nonce, &length, original, packet, b"")
+    gcm::make_tag(&schedule, hash_key, &nonce, &length, original, packet, b"")
 }

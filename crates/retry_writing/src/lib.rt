@@ -4,8 +4,6 @@ use header_fields::TAG_LENGTH;
 use header_long::LIMIT;
 use octets::refusal;
 use retry_tag::tag_of;
-ghost use mathlib.Core.Path.{_≡_};
-ghost use lib.ListN.{length};
 ghost use Rattle.octets.specs.Octets.{Begins};
 ghost use Rattle.retry_tag.specs.Tag.{tagged};
 ghost use Rattle.retry_writing.specs.Written.{untagged};

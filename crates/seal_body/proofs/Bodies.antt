@@ -7,8 +7,9 @@ use lib.ListN.{length, take}
 use Rattle.octets.specs.Octets.{part, laid}
 use Rattle.octets.proofs.Buffers.{take-laid, part-laid, laid-more}
 use Rattle.aes_schedule.specs.Expansion.{expansion}
-use Rattle.gcm.specs.Gcm.{stream, streamBy, tag, tagBy, hashKey}
-use Rattle.gcm.proofs.Laws.{stream-by-length}
+use Rattle.gcm_counter.specs.Counter.{stream, streamBy}
+use Rattle.gcm.specs.Gcm.{tag, tagBy, hashKey}
+use Rattle.gcm_counter.proofs.Laws.{stream-by-length}
 use Rattle.packets.specs.Packet.{bodyWith}
 use Rattle.packets.specs.AesGcm.{aesGcm}
 

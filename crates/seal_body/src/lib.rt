@@ -19,8 +19,8 @@ fn tag_over(
     requires { ⌜ (at ≤ end) × (end ≤ length (now packet)) × (end ≤ limit) ⌝ }
     ensures { λ r. ⌜ r ≡ tagBy (now (schedule .entry)) (hashKey (now (schedule .entry))) (now (nonce .entry)) (take at (now (packet .entry))) (part (now (packet .entry)) at (end - at)) ⌝ }
 {
-    let hash_key = gcm::tag::hash_key(schedule);
-    gcm::tag::make_tag(
+    let hash_key = gcm::hash_key(schedule);
+    gcm::make_tag(
         schedule,
         hash_key,
         nonce,
@@ -37,7 +37,7 @@ pub fn write_body(key: &[u8; 16], nonce: &[u8; 12], payload: &[u8], buffer: &mut
     ensures { λ _. ⌜ now (buffer .exit) ≡ laid (now (buffer .entry)) at (bodyWith aesGcm (now (key .entry)) (now (nonce .entry)) (take at (now (buffer .entry))) (now (payload .entry))) ⌝ }
 {
     let schedule = aes_schedule::expand_key(key);
-    gcm::counter::crypt(&schedule, nonce, payload, buffer, at);
+    gcm_counter::crypt(&schedule, nonce, payload, buffer, at);
     let end = at + payload.len();
     let tag = tag_over(&schedule, nonce, buffer, at, end);
     octets::copy(buffer, end, &tag);

@@ -36,11 +36,12 @@ marked tail short =
     ∙ ap (λ (n : ℕ). replicate {A = ℕ} n 0) rest in
     ap (λ (s : List ℕ). set (tail ++ s) t 0x80) behind ∙ set-at tail 0 (replicate (127 - t) 0) 0x80 t refl
 
--- a tail with its padding, as it is laid down: copied, marked, and the length in bits at the end of the last block
-pub padded : (tail : List ℕ) (total end : ℕ) → length tail < 64 → total % 64 ≡ length tail → end ≡ (length tail + 72) / 64 * 64
-    → take end (laid (set (laid (replicate 128 0) 0 tail) (length tail) 0x80) (end - 8) (bytes 8 (8 * total))) ≡ tail ++ padding total
+-- a tail with its padding, as it is laid down: copied, marked, and the length in bits at the end of the fewest blocks that hold it all
+pub padded : (tail copied stored : List ℕ) (total bits end : ℕ) → copied ≡ laid (replicate 128 0) 0 tail
+    → stored ≡ laid (set copied (length tail) 0x80) (end - 8) (bytes 8 bits) → length tail < 64 → total % 64 ≡ length tail → bits ≡ 8 * total
+    → (end % 64 ≡ 0) × (length tail + 9 ≤ end) × (end < length tail + 9 + 64) → take end stored ≡ tail ++ padding total
 unfolding padding zeros
-padded tail total end short same last =
+padded tail copied stored total bits end copies stores short same count fewest =
     let t : ℕ = length tail in
     let z : ℕ = (119 - total % 64) % 64 in
     let size : List ℕ = bytes 8 (8 * total) in
@@ -52,7 +53,9 @@ padded tail total end short same last =
     let front-length : length front ≡ end - 8 =
     length-append tail (0x80 ∷ replicate z 0) ∙ ap (λ (n : ℕ). t + suc n) (length-replicate z 0) ∙ omega arith in
     let whole : length (front ++ size) ≡ end = length-append front size ∙ omega arith in
-    ap (λ (d : List ℕ). take end (laid d (end - 8) size)) (marked tail short ∙ split)
+    ap (take end) (stores ∙ ap (λ (n : ℕ). laid (set copied t 0x80) (end - 8) (bytes 8 n)) count)
+    ∙ ap (λ (d : List ℕ). take end (laid (set d t 0x80) (end - 8) size)) copies
+    ∙ ap (λ (d : List ℕ). take end (laid d (end - 8) size)) (marked tail short ∙ split)
     ∙ ap (λ (f : List ℕ). take end (f ++ size ++ drop (end - 8 + length size) (front ++ rest))) (take-at front rest (end - 8) front-length)
     ∙ take-at (front ++ size) (drop (end - 8 + length size) (front ++ rest)) end whole
     ∙ append-assoc tail (0x80 ∷ replicate z 0) size

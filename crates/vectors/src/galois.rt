@@ -15,13 +15,13 @@ fn seal(
     requires { ⌜ (length (now associated) ≤ 1200) × (length (now plain) ≤ 1200) × (length (now plain) ≤ length (now buffer)) ⌝ }
 {
     let schedule = aes_schedule::expand_key(key);
-    gcm::counter::crypt(&schedule, nonce, plain, buffer, 0);
-    let h = gcm::tag::hash_key(&schedule);
+    gcm_counter::crypt(&schedule, nonce, plain, buffer, 0);
+    let h = gcm::hash_key(&schedule);
     let end = associated.len();
     let one = end / 3;
     let two = end / 2;
     let size = plain.len();
-    gcm::tag::make_tag(
+    gcm::make_tag(
         &schedule,
         h,
         nonce,

@@ -42,7 +42,7 @@ fn corner_vector(label: &[u8], count: usize)
 // The hash of a million times `a`, which is 15,625 blocks.
 fn million() -> [u8; 32] {
     let block = [b'a'; 64];
-    let mut value = sha256::initial();
+    let mut value = sha256_constants::initial();
     let mut i: usize = 0;
     while i < 15625 {
         let next = sha256::compress(value, &block);

@@ -1,12 +1,12 @@
 // RFC 9001 appendix A.4 and document 003 appendix A.4: Retry packets written and checked, and their refusals.
 use crate::print;
 use retry_checking::Checking;
-use retry_checking::Writing;
 use retry_checking::check_retry;
-use retry_checking::retry_destination;
-use retry_checking::retry_source;
-use retry_checking::retry_token;
-use retry_checking::write_retry;
+use retry_parts::retry_destination;
+use retry_parts::retry_source;
+use retry_parts::retry_token;
+use retry_writing::Writing;
+use retry_writing::write_retry;
 ghost use Prim.Native.Nat.{_≤_};
 
 pub fn run() {

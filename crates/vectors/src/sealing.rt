@@ -5,7 +5,7 @@ use keys::initial_keys;
 use numbers::FullPn;
 use numbers_shortening::Acknowledged;
 use packets::Keys;
-use seal::Sealing;
+use seal_judging::Sealing;
 use seal::seal;
 ghost use Prim.Native.Nat.{_≤_};
 

@@ -4,10 +4,10 @@ use crate::fields;
 use crate::sealing::written;
 use retry_checking::Checking;
 use retry_checking::RetryFields;
-use retry_checking::Writing;
-use retry_checking::retry_destination;
-use retry_checking::retry_source;
-use retry_checking::retry_token;
+use retry_parts::retry_destination;
+use retry_parts::retry_source;
+use retry_parts::retry_token;
+use retry_writing::Writing;
 
 // wicket retry VERSION ORIGINAL DESTINATION SOURCE TOKEN LOW-BITS
 pub fn retry(line: &[u8]) {
@@ -20,7 +20,7 @@ pub fn retry(line: &[u8]) {
     let mut token = io::buffer();
     let token_length = fields::bytes(line, 5, &mut token);
     let mut out = io::buffer();
-    match retry_checking::write_retry(
+    match retry_writing::write_retry(
         fields::version(line, 1),
         &original[..original_length],
         &destination[..destination_length],

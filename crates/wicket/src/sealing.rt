@@ -4,7 +4,7 @@ use crate::fields;
 use keys::InitialKeys;
 use keys::initial_keys;
 use numbers::FullPn;
-use seal::Sealing;
+use seal_judging::Sealing;
 
 // The keys that the first three words behind a command name.
 pub fn keys_of(line: &[u8]) -> InitialKeys {

@@ -1,7 +1,7 @@
 -- A refusal is told by its number alone, and a packet by its length.
 use mathlib.Core.Path.{sym, ap, _∙_}
 use borrow.Author.Needs.{needs}
-use Rattle.seal.specs.Sealing.{sealingAnswer}
+use Rattle.seal_judging.specs.Judging.{sealingAnswer}
 use Rattle.driftwicket_c.proofs.Answering.{refusing, giving, writing, seal-of}
 use Rattle.driftwicket_c.proofs.dw_seal.Statement.{statement}
 use Rattle.driftwicket_c.proofs.dw_seal.Tie as tie

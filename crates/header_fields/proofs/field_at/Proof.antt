@@ -7,17 +7,8 @@ use Rattle.header_fields.proofs.Fields.{integer-end, field-refused, fie
 use Rattle.header_fields.proofs.field_at.Statement.{statement}
 use Rattle.header_fields.proofs.field_at.Tie as tie
 
-integer-at-requires : tie.Need-integer-at-requires
-integer-at-requires c κs = search needs
-
-enum-known-why : tie.Need-enum-known-why
-enum-known-why c = search needs
-
 returns : tie.Need-returns
 returns c = sym (field-refused _ _ (sym (ap foundAnswer (c .before .why .given .1)) ∙ c .before .before .before .integer-at .ensures))
-
-enum-known-field : tie.Need-enum-known-field
-enum-known-field c = search needs
 
 sub-if1 : tie.Need-sub-if1
 sub-if1 c =
@@ -37,10 +28,10 @@ pub field-at-spec : {M : Type 1} → statement M
 field-at-spec =
     tie.close
     (tie.spec
-    integer-at-requires
-    enum-known-why
+    (λ c κs. search needs)
+    (λ c. search needs)
     returns
-    enum-known-field
+    (λ c. search needs)
     sub-if1
     returns-2
     returns-3)

@@ -10,24 +10,6 @@ use Rattle.header_fields.proofs.Fields.{integer-taken, integer-refused,
 use Rattle.header_fields.proofs.integer_at.Statement.{statement}
 use Rattle.header_fields.proofs.integer_at.Tie as tie
 
-sub-read-integer : tie.Need-sub-read-integer
-sub-read-integer c = search needs
-
-part-read-integer-start : tie.Need-part-read-integer-start
-part-read-integer-start c = search needs
-
-part-read-integer-end : tie.Need-part-read-integer-end
-part-read-integer-end c = search needs
-
-read-integer-requires : tie.Need-read-integer-requires
-read-integer-requires c κs = search needs
-
-enum-known-why : tie.Need-enum-known-why
-enum-known-why c = search needs
-
-enum-known-value : tie.Need-enum-known-value
-enum-known-value c = search needs
-
 add-t12 : tie.Need-add-t12
 add-t12 c =
     let a = c .before .before .before .before .before .before .args in
@@ -50,12 +32,12 @@ pub integer-at-spec : {M : Type 1} → statement M
 integer-at-spec =
     tie.close
     (tie.spec
-    sub-read-integer
-    part-read-integer-start
-    part-read-integer-end
-    read-integer-requires
-    enum-known-why
-    enum-known-value
+    (λ c. search needs)
+    (λ c. search needs)
+    (λ c. search needs)
+    (λ c κs. search needs)
+    (λ c. search needs)
+    (λ c. search needs)
     add-t12
     returns
     returns-2)

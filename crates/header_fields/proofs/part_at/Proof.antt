@@ -7,18 +7,6 @@ use lib.ListN.{take, drop}
 use Rattle.header_fields.proofs.part_at.Statement.{statement}
 use Rattle.header_fields.proofs.part_at.Tie as tie
 
-add-end : tie.Need-add-end
-add-end c = search needs
-
-sub-result : tie.Need-sub-result
-sub-result c = search needs
-
-part-result-start : tie.Need-part-result-start
-part-result-start c = search needs
-
-part-result-end : tie.Need-part-result-end
-part-result-end c = search needs
-
 returns : tie.Need-returns
 returns c =
     let p = c .before .before .args .place in
@@ -26,4 +14,4 @@ returns c =
     ap (λ (n : ℕ). take n (drop (p .at) (c .before .before .args .datagram .now))) long
 
 pub part-at-spec : {M : Type 1} → statement M
-part-at-spec = tie.close (tie.spec add-end sub-result part-result-start part-result-end returns)
+part-at-spec = tie.close (tie.spec (λ c. search needs) (λ c. search needs) (λ c. search needs) (λ c. search needs) returns)

@@ -7,17 +7,8 @@ use Rattle.header_fields.proofs.Fields.{integer-end, rest-refused, rest
 use Rattle.header_fields.proofs.rest_at.Statement.{statement}
 use Rattle.header_fields.proofs.rest_at.Tie as tie
 
-integer-at-requires : tie.Need-integer-at-requires
-integer-at-requires c κs = search needs
-
-enum-known-why : tie.Need-enum-known-why
-enum-known-why c = search needs
-
 returns : tie.Need-returns
 returns c = sym (rest-refused _ _ (sym (ap foundAnswer (c .before .why .given .1)) ∙ c .before .before .before .integer-at .ensures))
-
-enum-known-rest : tie.Need-enum-known-rest
-enum-known-rest c = search needs
 
 returns-2 : tie.Need-returns-2
 returns-2 c = sym (rest-small _ _ (sym (ap foundAnswer (c .before .before .before .rest .given .1)) ∙ c .before .before .before .before .before .integer-at .ensures) (omega arith))
@@ -37,10 +28,10 @@ pub rest-at-spec : {M : Type 1} → statement M
 rest-at-spec =
     tie.close
     (tie.spec
-    integer-at-requires
-    enum-known-why
+    (λ c κs. search needs)
+    (λ c. search needs)
     returns
-    enum-known-rest
+    (λ c. search needs)
     returns-2
     sub-if2
     returns-3

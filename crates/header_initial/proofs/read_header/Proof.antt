@@ -3,11 +3,8 @@ use borrow.Author.Needs.{needs}
 use Rattle.header_initial.proofs.read_header.Statement.{statement}
 use Rattle.header_initial.proofs.read_header.Tie as tie
 
-read-initial-requires : tie.Need-read-initial-requires
-read-initial-requires c κs = search needs
-
 returns : tie.Need-returns
 returns c = record { answer = c .read-initial .ensures }
 
 pub read-header-spec : {M : Type 1} → statement M
-read-header-spec = tie.close (tie.spec read-initial-requires returns)
+read-header-spec = tie.close (tie.spec (λ c κs. search needs) returns)

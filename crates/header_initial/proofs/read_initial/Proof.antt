@@ -10,17 +10,8 @@ use Rattle.header_initial.proofs.InitialHeaders.{header-no-long, header
 use Rattle.header_initial.proofs.read_initial.Statement.{statement}
 use Rattle.header_initial.proofs.read_initial.Tie as tie
 
-read-long-requires : tie.Need-read-long-requires
-read-long-requires c κs = search needs
-
-enum-known-why : tie.Need-enum-known-why
-enum-known-why c = search needs
-
 returns : tie.Need-returns
 returns c = sym (header-no-long _ _ (sym (ap longAnswer (c .before .why .given .1)) ∙ c .before .before .before .read-long .ensures))
-
-enum-known-long : tie.Need-enum-known-long
-enum-known-long c = search needs
 
 add-field-at : tie.Need-add-field-at
 add-field-at c =
@@ -32,16 +23,10 @@ field-at-requires c κs =
     let long = sym (ap longAnswer (c .before .before .before .before .long .given .1)) ∙ c .before .before .before .before .before .before .read-long .ensures in
     long-there _ _ _ long .source .inside
 
-enum-known-why-2 : tie.Need-enum-known-why-2
-enum-known-why-2 c = search needs
-
 returns-2 : tie.Need-returns-2
 returns-2 c =
     let long = sym (ap longAnswer (c .before .before .before .before .before .before .before .before .long .given .1)) ∙ c .before .before .before .before .before .before .before .before .before .before .read-long .ensures in
     sym (header-no-token _ _ long (sym (ap foundAnswer (c .before .why2 .given .1)) ∙ c .before .before .before .field-at .ensures))
-
-enum-known-place : tie.Need-enum-known-place
-enum-known-place c = search needs
 
 add-rest-at : tie.Need-add-rest-at
 add-rest-at c =
@@ -56,17 +41,11 @@ rest-at-requires c κs =
     let token = sym (ap foundAnswer (c .before .before .place .given .1)) ∙ c .before .before .before .before .field-at .ensures in
     field-within _ _ (long-there _ _ _ long .source .inside) token .inside
 
-enum-known-why-3 : tie.Need-enum-known-why-3
-enum-known-why-3 c = search needs
-
 returns-3 : tie.Need-returns-3
 returns-3 c =
     let long = sym (ap longAnswer (c .before .before .before .before .before .before .before .before .before .before .before .before .before .long .given .1)) ∙ c .before .before .before .before .before .before .before .before .before .before .before .before .before .before .before .read-long .ensures in
     let token = sym (ap foundAnswer (c .before .before .before .before .before .before .place .given .1)) ∙ c .before .before .before .before .before .before .before .before .field-at .ensures in
     sym (header-no-rest _ _ long token (sym (ap foundAnswer (c .before .why3 .given .1)) ∙ c .before .before .before .rest-at .ensures))
-
-enum-known-place-2 : tie.Need-enum-known-place-2
-enum-known-place-2 c = search needs
 
 returns-4 : tie.Need-returns-4
 returns-4 c =
@@ -78,18 +57,18 @@ pub read-initial-spec : {M : Type 1} → statement M
 read-initial-spec =
     tie.close
     (tie.spec
-    read-long-requires
-    enum-known-why
+    (λ c κs. search needs)
+    (λ c. search needs)
     returns
-    enum-known-long
+    (λ c. search needs)
     add-field-at
     field-at-requires
-    enum-known-why-2
+    (λ c. search needs)
     returns-2
-    enum-known-place
+    (λ c. search needs)
     add-rest-at
     rest-at-requires
-    enum-known-why-3
+    (λ c. search needs)
     returns-3
-    enum-known-place-2
+    (λ c. search needs)
     returns-4)

@@ -6,17 +6,8 @@ use Rattle.header_long.specs.declared.Wanted.{Wanted}
 use Rattle.header_long.proofs.is_taken.Statement.{statement}
 use Rattle.header_long.proofs.is_taken.Tie as tie
 
-enum-told : tie.Need-enum-told
-enum-told c = search needs
-
-enum-known-wanted : tie.Need-enum-known-wanted
-enum-known-wanted c = search needs
-
-returns : tie.Need-returns
-returns c = search needs
-
 returns-2 : tie.Need-returns-2
 returns-2 c = ap (λ (w : Wanted). takes w (c .before .before .before .args .version)) (sym (c .before .wanted .given .1))
 
 pub is-taken-spec : {M : Type 1} → statement M
-is-taken-spec = tie.close (tie.spec enum-told enum-known-wanted returns returns-2)
+is-taken-spec = tie.close (tie.spec (λ c. search needs) (λ c. search needs) (λ c. search needs) returns-2)

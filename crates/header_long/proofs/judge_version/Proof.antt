@@ -8,28 +8,13 @@ use Rattle.header_long.proofs.LongHeaders.{version-there, judged-none, 
 use Rattle.header_long.proofs.judge_version.Statement.{statement}
 use Rattle.header_long.proofs.judge_version.Tie as tie
 
-read-version-requires : tie.Need-read-version-requires
-read-version-requires c κs = search needs
-
-enum-known-why : tie.Need-enum-known-why
-enum-known-why c = search needs
-
 returns : tie.Need-returns
 returns c = sym (judged-none _ _ _ (sym (ap versionAnswer (c .before .why .given .1)) ∙ c .before .before .before .read-version .ensures))
-
-enum-known-version : tie.Need-enum-known-version
-enum-known-version c = search needs
-
-is-known-requires : tie.Need-is-known-requires
-is-known-requires c κs = search needs
 
 returns-2 : tie.Need-returns-2
 returns-2 c =
     let is = sym (ap versionAnswer (c .before .before .before .version .given .1)) ∙ c .before .before .before .before .before .read-version .ensures in
     sym (judged-unknown _ _ _ is (sym (c .before .is-known .ensures) ∙ not-true _ (c .if1 .taken)))
-
-is-taken-requires : tie.Need-is-taken-requires
-is-taken-requires c κs = search needs
 
 returns-3 : tie.Need-returns-3
 returns-3 c =
@@ -41,9 +26,6 @@ shared-slice-read-if3 : tie.Need-shared-slice-read-if3
 shared-slice-read-if3 c =
     let there = version-there _ (sym (ap versionAnswer (c .before .before .before .before .before .before .version .given .1)) ∙ c .before .before .before .before .before .before .before .before .read-version .ensures) in
     omega arith
-
-type-of-requires : tie.Need-type-of-requires
-type-of-requires c κs = search needs
 
 returns-4 : tie.Need-returns-4
 returns-4 c =
@@ -63,15 +45,15 @@ pub judge-version-spec : {M : Type 1} → statement M
 judge-version-spec =
     tie.close
     (tie.spec
-    read-version-requires
-    enum-known-why
+    (λ c κs. search needs)
+    (λ c. search needs)
     returns
-    enum-known-version
-    is-known-requires
+    (λ c. search needs)
+    (λ c κs. search needs)
     returns-2
-    is-taken-requires
+    (λ c κs. search needs)
     returns-3
     shared-slice-read-if3
-    type-of-requires
+    (λ c κs. search needs)
     returns-4
     returns-5)

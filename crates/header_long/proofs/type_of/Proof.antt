@@ -7,18 +7,6 @@ use Rattle.header_long.specs.declared.Kind.{Kind}
 use Rattle.header_long.proofs.type_of.Statement.{statement}
 use Rattle.header_long.proofs.type_of.Tie as tie
 
-enum-told : tie.Need-enum-told
-enum-told c = search needs
-
-initial-type-requires : tie.Need-initial-type-requires
-initial-type-requires c κs = search needs
-
-enum-told-2 : tie.Need-enum-told-2
-enum-told-2 c = search needs
-
-retry-type-requires : tie.Need-retry-type-requires
-retry-type-requires c κs = search needs
-
 returns : tie.Need-returns
 returns c = c .initial-type .ensures ∙ ap (λ (k : Kind). typeOf k (Constants.version (c .before .before .before .args .version))) (sym (c .before .enum-told .given .1))
 
@@ -28,4 +16,4 @@ returns-2 c = c .retry-type .ensures ∙ ap (λ (k : Kind). typeOf k (Constants.
 pub type-of-spec : {M : Type 1} → statement M
 type-of-spec =
     tie.close
-    (tie.spec enum-told initial-type-requires enum-told-2 retry-type-requires returns returns-2)
+    (tie.spec (λ c. search needs) (λ c κs. search needs) (λ c. search needs) (λ c κs. search needs) returns returns-2)

@@ -8,18 +8,6 @@ use Rattle.header_fields.proofs.Fields.{handed-none, handed-part}
 use Rattle.header_parts.proofs.header_destination.Statement.{statement}
 use Rattle.header_parts.proofs.header_destination.Tie as tie
 
-read-header-requires : tie.Need-read-header-requires
-read-header-requires c κs = search needs
-
-enum-told : tie.Need-enum-told
-enum-told c = search needs
-
-slice-aggregate-result : tie.Need-slice-aggregate-result
-slice-aggregate-result c = search needs
-
-enum-known-header : tie.Need-enum-known-header
-enum-known-header c = search needs
-
 part-at-requires : tie.Need-part-at-requires
 part-at-requires c κs =
     let there = header-there _ _ (sym (ap readingAnswer (c .before .before .header .given .1)) ∙ c .before .before .before .before .read-header .ensures .answer) in
@@ -39,10 +27,10 @@ pub header-destination-spec : {M : Type 1} → statement M
 header-destination-spec =
     tie.close
     (tie.spec
-    read-header-requires
-    enum-told
-    slice-aggregate-result
-    enum-known-header
+    (λ c κs. search needs)
+    (λ c. search needs)
+    (λ c. search needs)
+    (λ c. search needs)
     part-at-requires
     returns
     returns-2)

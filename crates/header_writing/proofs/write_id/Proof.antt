@@ -10,21 +10,6 @@ use Rattle.octets.proofs.Buffers.{laid-more}
 use Rattle.header_writing.proofs.write_id.Statement.{statement}
 use Rattle.header_writing.proofs.write_id.Tie as tie
 
-cast-put : tie.Need-cast-put
-cast-put c = search needs
-
-put-requires : tie.Need-put-requires
-put-requires c κs = search needs
-
-add-copy : tie.Need-add-copy
-add-copy c = search needs
-
-copy-requires : tie.Need-copy-requires
-copy-requires c κs = search needs
-
-same-length : tie.Need-same-length
-same-length c = search needs
-
 returns : tie.Need-returns
 returns c =
     let a = c .before .before .before .before .before .before .before .before .before .before .args in
@@ -34,4 +19,4 @@ returns c =
 
 pub write-id-spec : {M : Type 1} → statement M
 write-id-spec =
-    tie.close (tie.spec cast-put put-requires add-copy copy-requires same-length returns)
+    tie.close (tie.spec (λ c. search needs) (λ c κs. search needs) (λ c. search needs) (λ c κs. search needs) (λ c. search needs) returns)

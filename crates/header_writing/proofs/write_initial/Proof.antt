@@ -10,14 +10,8 @@ use Rattle.header_writing.proofs.Forms.{two-bytes, long-length}
 use Rattle.header_writing.proofs.write_initial.Statement.{statement}
 use Rattle.header_writing.proofs.write_initial.Tie as tie
 
-write-long-requires : tie.Need-write-long-requires
-write-long-requires c κs = search needs
-
 write-smallest-requires : tie.Need-write-smallest-requires
 write-smallest-requires c κs = (search needs, omega (arith, long-length (c .before .before .before .before .before .before .before .before .before .args .version) (c .before .before .before .before .before .before .before .before .before .args .destination .now) (c .before .before .before .before .before .before .before .before .before .args .source .now), c .before .before .before .write-long .ensures .ends, c .before .before .before .write-long .kept))
-
-smallest-form-requires : tie.Need-smallest-form-requires
-smallest-form-requires c κs = search needs
 
 add-token-at : tie.Need-add-token-at
 add-token-at c = omega (arith, long-length (c .before .before .before .before .before .before .before .before .before .before .before .before .before .args .version) (c .before .before .before .before .before .before .before .before .before .before .before .before .before .args .destination .now) (c .before .before .before .before .before .before .before .before .before .before .before .before .before .args .source .now), c .before .before .before .before .before .before .before .write-long .ensures .ends, c .smallest-form .ensures)
@@ -37,9 +31,6 @@ write-two-requires c κs =
 
 add-result : tie.Need-add-result
 add-result c = omega (arith, long-length (c .before .before .before .before .before .before .before .before .before .before .before .before .before .before .before .before .before .before .before .before .before .args .version) (c .before .before .before .before .before .before .before .before .before .before .before .before .before .before .before .before .before .before .before .before .before .args .destination .now) (c .before .before .before .before .before .before .before .before .before .before .before .before .before .before .before .before .before .before .before .before .before .args .source .now), c .before .before .before .before .before .before .before .before .before .before .before .before .before .before .before .write-long .ensures .ends, c .before .before .before .before .before .before .before .before .smallest-form .ensures)
-
-same-length : tie.Need-same-length
-same-length c = search needs
 
 returns : tie.Need-returns
 unfolding initialFields
@@ -65,13 +56,13 @@ pub write-initial-spec : {M : Type 1} → statement M
 write-initial-spec =
     tie.close
     (tie.spec
-    write-long-requires
+    (λ c κs. search needs)
     write-smallest-requires
-    smallest-form-requires
+    (λ c κs. search needs)
     add-token-at
     copy-requires
     add-length-at
     write-two-requires
     add-result
-    same-length
+    (λ c. search needs)
     returns)

@@ -12,30 +12,6 @@ use Rattle.header_writing.specs.Written.{two, withLength, longFields}
 use Rattle.header_writing.proofs.write_long.Statement.{statement}
 use Rattle.header_writing.proofs.write_long.Tie as tie
 
-put-requires : tie.Need-put-requires
-put-requires c κs = search needs
-
-store-requires : tie.Need-store-requires
-store-requires c κs = search needs
-
-write-id-requires : tie.Need-write-id-requires
-write-id-requires c κs = search needs
-
-add-source-at : tie.Need-add-source-at
-add-source-at c = search needs
-
-write-id-requires-2 : tie.Need-write-id-requires-2
-write-id-requires-2 c κs = search needs
-
-add-result : tie.Need-add-result
-add-result c = search needs
-
-add-result-2 : tie.Need-add-result-2
-add-result-2 c = search needs
-
-same-length : tie.Need-same-length
-same-length c = search needs
-
 returns : tie.Need-returns
 unfolding longFields
 returns c =
@@ -60,12 +36,12 @@ pub write-long-spec : {M : Type 1} → statement M
 write-long-spec =
     tie.close
     (tie.spec
-    put-requires
-    store-requires
-    write-id-requires
-    add-source-at
-    write-id-requires-2
-    add-result
-    add-result-2
-    same-length
+    (λ c κs. search needs)
+    (λ c κs. search needs)
+    (λ c κs. search needs)
+    (λ c. search needs)
+    (λ c κs. search needs)
+    (λ c. search needs)
+    (λ c. search needs)
+    (λ c. search needs)
     returns)

@@ -8,29 +8,17 @@ use Rattle.header_writing.proofs.write_smallest.Tie as tie
 store-requires : tie.Need-store-requires
 store-requires c κs = (search needs, omega (arith, one-length (c .before .before .before .args .value) (omega arith)))
 
-same-length : tie.Need-same-length
-same-length c = search needs
-
 returns : tie.Need-returns
 returns c = rw (smallest-one (c .before .before .before .before .before .before .args .value) (omega arith)) (c .before .before .store .ensures)
 
 write-two-requires : tie.Need-write-two-requires
 write-two-requires c κs = (search needs, omega (arith, two-length (c .before .before .before .before .args .value) (omega arith) (omega arith)))
 
-same-length-2 : tie.Need-same-length-2
-same-length-2 c = search needs
-
 returns-2 : tie.Need-returns-2
 returns-2 c = rw (smallest-two (c .before .before .before .before .before .before .before .args .value) (omega arith) (omega arith)) (c .before .before .write-two .ensures)
 
-add-store : tie.Need-add-store
-add-store c = search needs
-
 store-requires-2 : tie.Need-store-requires-2
 store-requires-2 c κs = (search needs, omega (arith, four-length (c .before .before .before .before .args .value) (omega arith)))
-
-same-length-3 : tie.Need-same-length-3
-same-length-3 c = search needs
 
 returns-3 : tie.Need-returns-3
 returns-3 c = rw (smallest-four (c .before .before .before .before .before .before .before .args .value) (omega arith)) (c .before .before .store2 .ensures)
@@ -40,12 +28,12 @@ write-smallest-spec =
     tie.close
     (tie.spec
     store-requires
-    same-length
+    (λ c. search needs)
     returns
     write-two-requires
-    same-length-2
+    (λ c. search needs)
     returns-2
-    add-store
+    (λ c. search needs)
     store-requires-2
-    same-length-3
+    (λ c. search needs)
     returns-3)

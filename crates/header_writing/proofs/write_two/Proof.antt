@@ -4,18 +4,9 @@ use Rattle.header_writing.specs.Written.{two}
 use Rattle.header_writing.proofs.write_two.Statement.{statement}
 use Rattle.header_writing.proofs.write_two.Tie as tie
 
-add-store : tie.Need-add-store
-add-store c = search needs
-
-store-requires : tie.Need-store-requires
-store-requires c κs = search needs
-
-same-length : tie.Need-same-length
-same-length c = search needs
-
 returns : tie.Need-returns
 unfolding two
 returns c = c .before .before .store .ensures
 
 pub write-two-spec : {M : Type 1} → statement M
-write-two-spec = tie.close (tie.spec add-store store-requires same-length returns)
+write-two-spec = tie.close (tie.spec (λ c. search needs) (λ c κs. search needs) (λ c. search needs) returns)

@@ -2,7 +2,7 @@
 use borrow.Author.Needs.{needs}
 use native.Mathlib.Omega.{arith}
 use lib.ListN.{replicate, length-take, length-drop}
-use Rattle.gcm.specs.Table.{num}
+use Rattle.gcm_field.specs.Field.{num}
 use Rattle.open_tag.proofs.Pieces.{matches}
 use Rattle.open_tag.proofs.tag_matches.Statement.{statement}
 use Rattle.open_tag.proofs.tag_matches.Tie as tie
