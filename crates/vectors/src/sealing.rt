@@ -5,8 +5,8 @@ use keys::initial_keys;
 use numbers::FullPn;
 use numbers_shortening::Acknowledged;
 use packets::Keys;
-use seal_judging::Sealing;
 use seal::seal;
+use seal_judging::Sealing;
 ghost use Prim.Native.Nat.{_≤_};
 
 pub fn run() {

@@ -48,7 +48,7 @@ protect-requires c κs =
     let p : Plain = record { destination = a .destination .now; source = a .source .now; token = a .token .now; payload = a .payload .now; packetNumber = a .number; numberLength = a .count } in
     let size = front-length (a .keys .version) p in (
       omega (arith, c .before .before .before .before .before .before .before .before .before .before .before .before .before .before .write-header .ensures .stands),
-      omega arith,
+      c .before .before .before .before .before .before .before .before .before .before .before .before .before .before .before .before .before .before .before .before .before .before .before .before .pre .sealable .short,
       omega (arith, c .before .before .before .before .before .before .before .before .before .before .before .before .before .before .write-header .ensures .stands, c .before .before .before .before .before .before .before .before .before .before .before .before .before .before .write-header .kept .1 .1 .1 .1 .1 .1 .1 .0, c .before .before .before .before .before .before .write-body .kept .1 .1 .1 .0),
     )
 
@@ -64,7 +64,7 @@ returns c =
     let one = header .last .1 .1 .1 .1 .1 .1 .1 .0 in
     let body = c .before .before .before .before .before .before .before .before .before .write-body .ensures
     ∙ ap (λ (once : List ℕ). laid one at (bodyWith aesGcm (a .keys .key) once (take at one) (a .payload .now))) (c .before .before .before .before .before .before .before .before .before .before .before .before .before .nonce-of .ensures) in
-    protected-laid (keysOf (a .keys)) p (a .buffer .now) one _ _ _ (header .result) (c .before .before .before .before .before .before .before .before .before .before .before .before .before .before .before .before .before .before .before .before .before .before .before .before .before .before .before .pre .enough) (header .ensures .stands) (header .ensures .holds)
+    protected-laid (keysOf (a .keys)) p (a .buffer .now) one _ _ _ (header .result) (c .before .before .before .before .before .before .before .before .before .before .before .before .before .before .before .before .before .before .before .before .before .before .before .before .before .before .before .pre .sealable .enough) (header .ensures .stands) (header .ensures .holds)
     body (c .before .before .before .before .mask-of .ensures) (c .before .before .protect .ensures)
 
 pub write-packet-spec : {M : Type 1} → statement M
