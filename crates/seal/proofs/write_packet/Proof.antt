@@ -15,12 +15,6 @@ use Rattle.seal.proofs.Protecting.{protected-laid}
 use Rattle.seal.proofs.write_packet.Statement.{statement}
 use Rattle.seal.proofs.write_packet.Tie as tie
 
-write-header-requires : tie.Need-write-header-requires
-write-header-requires c κs = search needs
-
-nonce-of-requires : tie.Need-nonce-of-requires
-nonce-of-requires c κs = search needs
-
 add-write-body : tie.Need-add-write-body
 add-write-body c =
     let a = c .before .before .before .before .before .before .before .before .before .before .before .before .before .before .before .before .before .args in
@@ -52,9 +46,6 @@ protect-requires c κs =
       omega (arith, c .before .before .before .before .before .before .before .before .before .before .before .before .before .before .write-header .ensures .stands, c .before .before .before .before .before .before .before .before .before .before .before .before .before .before .write-header .kept .1 .1 .1 .1 .1 .1 .1 .0, c .before .before .before .before .before .before .write-body .kept .1 .1 .1 .0),
     )
 
-same-length : tie.Need-same-length
-same-length c = search needs
-
 returns : tie.Need-returns
 returns c =
     let a = c .before .before .before .before .before .before .before .before .before .before .before .before .before .before .before .before .before .before .before .before .before .before .before .before .before .before .before .args in
@@ -71,11 +62,11 @@ pub write-packet-spec : {M : Type 1} → statement M
 write-packet-spec =
     tie.close
     (tie.spec
-    write-header-requires
-    nonce-of-requires
+    (λ c κs. search needs)
+    (λ c κs. search needs)
     add-write-body
     write-body-requires
     mask-of-requires
     protect-requires
-    same-length
+    (λ c. search needs)
     returns)

@@ -11,26 +11,8 @@ use Rattle.seal_body.proofs.Bodies.{one-piece}
 use Rattle.seal_body.proofs.tag_over.Statement.{statement}
 use Rattle.seal_body.proofs.tag_over.Tie as tie
 
-hash-key-requires : tie.Need-hash-key-requires
-hash-key-requires c κs = search needs
-
 slice-aggregate-make-tag : tie.Need-slice-aggregate-make-tag
 slice-aggregate-make-tag c = sym (length-take-le _ _ (omega arith))
-
-slice-aggregate-make-tag-2 : tie.Need-slice-aggregate-make-tag-2
-slice-aggregate-make-tag-2 c = search needs
-
-slice-aggregate-make-tag-3 : tie.Need-slice-aggregate-make-tag-3
-slice-aggregate-make-tag-3 c = search needs
-
-sub-make-tag : tie.Need-sub-make-tag
-sub-make-tag c = search needs
-
-part-make-tag-start : tie.Need-part-make-tag-start
-part-make-tag-start c = search needs
-
-part-make-tag-end : tie.Need-part-make-tag-end
-part-make-tag-end c = search needs
 
 make-tag-requires : tie.Need-make-tag-requires
 make-tag-requires c κs = (simp length-take (omega arith), simp (length-take, length-drop) (omega arith))
@@ -46,12 +28,12 @@ pub tag-over-spec : {M : Type 1} → statement M
 tag-over-spec =
     tie.close
     (tie.spec
-    hash-key-requires
+    (λ c κs. search needs)
     slice-aggregate-make-tag
-    slice-aggregate-make-tag-2
-    slice-aggregate-make-tag-3
-    sub-make-tag
-    part-make-tag-start
-    part-make-tag-end
+    (λ c. search needs)
+    (λ c. search needs)
+    (λ c. search needs)
+    (λ c. search needs)
+    (λ c. search needs)
     make-tag-requires
     returns)

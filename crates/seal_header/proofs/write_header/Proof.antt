@@ -12,40 +12,19 @@ use Rattle.seal_header.proofs.Ends.{fields-end}
 use Rattle.seal_header.proofs.write_header.Statement.{statement}
 use Rattle.seal_header.proofs.write_header.Tie as tie
 
-initial-type-requires : tie.Need-initial-type-requires
-initial-type-requires c κs = search needs
-
 mul-first : tie.Need-mul-first
 mul-first c = omega (arith, c .initial-type .ensures, initial-fits (c .before .before .before .before .before .before .args .version))
 
 add-first : tie.Need-add-first
 add-first c = omega (arith, c .initial-type .ensures, initial-fits (c .before .before .before .before .before .before .args .version))
 
-sub-first : tie.Need-sub-first
-sub-first c = search needs
-
-cast-first : tie.Need-cast-first
-cast-first c = search needs
-
 add-first-2 : tie.Need-add-first-2
 add-first-2 c = omega (arith, c .initial-type .ensures, initial-fits (c .before .before .before .before .before .before .args .version))
-
-add-counted : tie.Need-add-counted
-add-counted c = search needs
-
-add-counted-2 : tie.Need-add-counted-2
-add-counted-2 c = search needs
-
-write-initial-requires : tie.Need-write-initial-requires
-write-initial-requires c κs = search needs
 
 store-requires : tie.Need-store-requires
 store-requires c κs =
     let written = c .before .before .before .write-initial in
     (omega arith, omega (arith, fields-end _ _ _ _ _ _ (written .ensures .ends), written .kept))
-
-same-length : tie.Need-same-length
-same-length c = search needs
 
 returns : tie.Need-returns
 unfolding firstByte
@@ -62,15 +41,15 @@ pub write-header-spec : {M : Type 1} → statement M
 write-header-spec =
     tie.close
     (tie.spec
-    initial-type-requires
+    (λ c κs. search needs)
     mul-first
     add-first
-    sub-first
-    cast-first
+    (λ c. search needs)
+    (λ c. search needs)
     add-first-2
-    add-counted
-    add-counted-2
-    write-initial-requires
+    (λ c. search needs)
+    (λ c. search needs)
+    (λ c κs. search needs)
     store-requires
-    same-length
+    (λ c. search needs)
     returns)

@@ -11,26 +11,14 @@ use Rattle.seal_judging.proofs.Sizes.{size-left}
 use Rattle.seal_judging.proofs.judge.Statement.{statement}
 use Rattle.seal_judging.proofs.judge.Tie as tie
 
-is-known-requires : tie.Need-is-known-requires
-is-known-requires c κs = search needs
-
 returns : tie.Need-returns
 returns c = ap lengthGiven (sym (seal-version aesGcm _ _ _ _ (sym (c .before .is-known .ensures) ∙ not-true _ (c .if1 .taken))))
-
-shorten-requires : tie.Need-shorten-requires
-shorten-requires c κs = search needs
-
-enum-known-why : tie.Need-enum-known-why
-enum-known-why c = search needs
 
 returns-2 : tie.Need-returns-2
 returns-2 c =
     let ours = sym (c .before .before .before .before .before .is-known .ensures) ∙ not-false _ (c .before .before .before .before .if1 .left) in
     let why = sym (ap shortenedAnswer (c .before .why .given .1)) ∙ c .before .before .before .shorten .ensures .answer in
     ap lengthGiven (sym (seal-number aesGcm _ _ _ _ ours why))
-
-enum-told : tie.Need-enum-told
-enum-told c = search needs
 
 returns-3 : tie.Need-returns-3
 returns-3 c =
@@ -80,12 +68,12 @@ pub judge-spec : {M : Type 1} → statement M
 judge-spec =
     tie.close
     (tie.spec
-    is-known-requires
+    (λ c κs. search needs)
     returns
-    shorten-requires
-    enum-known-why
+    (λ c κs. search needs)
+    (λ c. search needs)
     returns-2
-    enum-told
+    (λ c. search needs)
     returns-3
     returns-4
     add-if4

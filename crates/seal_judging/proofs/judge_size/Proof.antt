@@ -13,9 +13,6 @@ returns c = over-limit _ _ (omega arith)
 returns-2 : tie.Need-returns-2
 returns-2 c = over-limit _ _ (omega arith)
 
-size-of-requires : tie.Need-size-of-requires
-size-of-requires c κs = search needs
-
 returns-3 : tie.Need-returns-3
 returns-3 c = let counted = c .before .size-of .ensures in over-limit _ _ (omega arith)
 
@@ -28,4 +25,4 @@ returns-5 c =
     ap given counted ∙ within _ _ (omega arith) (omega arith)
 
 pub judge-size-spec : {M : Type 1} → statement M
-judge-size-spec = tie.close (tie.spec returns returns-2 size-of-requires returns-3 returns-4 returns-5)
+judge-size-spec = tie.close (tie.spec returns returns-2 (λ c κs. search needs) returns-3 returns-4 returns-5)

@@ -9,47 +9,8 @@ use Rattle.seal_masking.proofs.Masking.{number-taken, rest-length, mask
 use Rattle.seal_masking.proofs.protect.Statement.{statement}
 use Rattle.seal_masking.proofs.protect.Tie as tie
 
-add-end : tie.Need-add-end
-add-end c = search needs
-
-slice-aggregate-copy : tie.Need-slice-aggregate-copy
-slice-aggregate-copy c = search needs
-
-sub-copy : tie.Need-sub-copy
-sub-copy c = search needs
-
-part-copy-start : tie.Need-part-copy-start
-part-copy-start c = search needs
-
-part-copy-end : tie.Need-part-copy-end
-part-copy-end c = search needs
-
-copy-requires : tie.Need-copy-requires
-copy-requires c κs = search needs
-
-slice-read-first : tie.Need-slice-read-first
-slice-read-first c = search needs
-
-array-read-first : tie.Need-array-read-first
-array-read-first c = search needs
-
-put-requires : tie.Need-put-requires
-put-requires c κs = search needs
-
-array-share-prefix-short : tie.Need-array-share-prefix-short
-array-share-prefix-short c = search needs
-
 slice-aggregate-copy-masked : tie.Need-slice-aggregate-copy-masked
 slice-aggregate-copy-masked c = sym (length-take-le _ _ (omega (arith, c .before .before .before .before .before .before .before .before .copy .kept .0)))
-
-sub-copy-masked : tie.Need-sub-copy-masked
-sub-copy-masked c = search needs
-
-part-copy-masked-start : tie.Need-part-copy-masked-start
-part-copy-masked-start c = search needs
-
-part-copy-masked-end : tie.Need-part-copy-masked-end
-part-copy-masked-end c = search needs
 
 copy-masked-requires : tie.Need-copy-masked-requires
 copy-masked-requires c κs =
@@ -57,9 +18,6 @@ copy-masked-requires c κs =
     let count = length-take-le (a .count) (c .before .before .before .before .before .before .before .before .before .before .copy .last .0) (omega (arith, c .before .before .before .before .before .before .before .before .before .before .copy .kept .0)) in
     let rest = rest-length (a .t1) (search needs) in
     (omega (arith, c .before .before .before .before .before .before .put .kept .0), omega arith)
-
-same-length : tie.Need-same-length
-same-length c = search needs
 
 returns : tie.Need-returns
 returns c =
@@ -72,20 +30,20 @@ pub protect-spec : {M : Type 1} → statement M
 protect-spec =
     tie.close
     (tie.spec
-    add-end
-    slice-aggregate-copy
-    sub-copy
-    part-copy-start
-    part-copy-end
-    copy-requires
-    slice-read-first
-    array-read-first
-    put-requires
-    array-share-prefix-short
+    (λ c. search needs)
+    (λ c. search needs)
+    (λ c. search needs)
+    (λ c. search needs)
+    (λ c. search needs)
+    (λ c κs. search needs)
+    (λ c. search needs)
+    (λ c. search needs)
+    (λ c κs. search needs)
+    (λ c. search needs)
     slice-aggregate-copy-masked
-    sub-copy-masked
-    part-copy-masked-start
-    part-copy-masked-end
+    (λ c. search needs)
+    (λ c. search needs)
+    (λ c. search needs)
     copy-masked-requires
-    same-length
+    (λ c. search needs)
     returns)
