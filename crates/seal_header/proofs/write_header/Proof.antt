@@ -1,14 +1,9 @@
 -- The fields before the number, and the number's low bytes behind them.
-use Prim.Native.Nat.{ℕ, _+_, _-_, _*_}
-use mathlib.Core.List.{List, _∷_}
 use borrow.Author.Needs.{needs}
 use native.Mathlib.Omega.{arith}
-use lib.ListN.{length}
-use Rattle.octets.specs.Octets.{bytes}
-use Rattle.octets.proofs.Buffers.{goes-on}
-use Rattle.header_writing.specs.Written.{firstByte, initialFields}
+use Rattle.header_writing.specs.Written.{firstByte}
 use Rattle.versions.proofs.Versions.{initial-fits}
-use Rattle.seal_header.proofs.Ends.{fields-end}
+use Rattle.seal_header.proofs.Headers.{fields-end, header-written}
 use Rattle.seal_header.proofs.write_header.Statement.{statement}
 use Rattle.seal_header.proofs.write_header.Tie as tie
 
@@ -29,13 +24,9 @@ store-requires c κs =
 returns : tie.Need-returns
 unfolding firstByte
 returns c =
-    let a = c .before .before .before .before .before .before .before .before .before .before .before .before .before .before .args in
-    let type = c .before .before .before .before .before .before .before .before .initial-type .result in
-    let counted = a .count + length (a .payload .now) + 16 in
-    let front : List ℕ = (192 + type * 16 + (a .count - 1)) ∷ initialFields (a .version) (a .destination .now) (a .source .now) (a .token .now) counted in
-    let begins = c .before .before .before .before .before .before .write-initial .ensures in
-    let more = goes-on front (bytes (a .count) (a .number)) (a .buffer .now) _ _ _ (begins .holds) (c .before .before .store .ensures) (begins .ends) in
-    record { holds = rw (← (c .before .before .before .before .before .before .before .before .initial-type .ensures)) more; stands = begins .ends }
+    let type = c .before .before .before .before .before .before .before .before .initial-type .ensures in
+    header-written _ _ _ _ _ _ _ _ (c .before .before .before .before .before .before .write-initial .ensures) (c .before .before .store .ensures)
+    (omega (arith, type)) (omega arith)
 
 pub write-header-spec : {M : Type 1} → statement M
 write-header-spec =
