@@ -1,9 +1,8 @@
 -- The mask over a packet that stands at a buffer's start.
-use Prim.Native.Nat.{ℕ, _+_, _%_, _≤_}
+use Prim.Native.Nat.{ℕ, _+_, _≤_}
 use mathlib.Core.Path.{_≡_}
 use mathlib.Core.List.{List, [], _∷_}
 use native.Mathlib.Omega.{arith}
-use lib.Bits.{bitXor}
 use lib.ListN.{length, getD, take, drop}
 use Rattle.octets.specs.Octets.{part, xor, laid}
 use Rattle.octets.proofs.Parts.{part-length}
@@ -22,11 +21,12 @@ pub rest-length : (mask : List ℕ) → length mask ≡ 16 → length (take 15 (
 rest-length mask sixteen = part-length mask 1 15 (omega arith)
 
 -- what is laid over the first byte and the number is the mask
-pub mask-laid : (mask buffer one two short : List ℕ) (place count : ℕ) → length mask ≡ 16
-    → one ≡ laid buffer 0 (bitXor (getD buffer 0 0) (getD mask 0 0 % 16) ∷ [])
+pub mask-laid : (mask buffer one two short : List ℕ) (place count first : ℕ) → length mask ≡ 16
+    → one ≡ laid buffer 0 (first ∷ [])
+    → first ≡ onFirst mask (getD buffer 0 0)
     → short ≡ part buffer place count
     → two ≡ laid one place (xor short (take 15 (drop 1 mask)))
     → two ≡ masked mask place count buffer
-unfolding masked onFirst onNumber
-mask-laid mask buffer one two short place count sixteen first number then =
-    rw (then, first, number, mask-rest mask sixteen)
+unfolding masked onNumber
+mask-laid mask buffer one two short place count first sixteen put its-first number then =
+    rw (then, put, its-first, number, mask-rest mask sixteen)

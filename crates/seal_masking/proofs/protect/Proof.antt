@@ -1,10 +1,11 @@
 -- The first byte and the number's bytes, each with its part of the mask laid on.
 use Prim.Native.Nat.{_+_, _-_}
-use mathlib.Core.Path.{sym, ap, _∙_}
+use mathlib.Core.Path.{refl, sym, ap, _∙_}
 use borrow.Author.Needs.{needs}
 use native.Mathlib.Omega.{arith}
 use lib.ListN.{take, replicate}
 use lib.Seq.{length-take-le}
+use Rattle.packets.specs.Protection.{onFirst}
 use Rattle.seal_masking.proofs.Masking.{number-taken, rest-length, mask-laid}
 use Rattle.seal_masking.proofs.protect.Statement.{statement}
 use Rattle.seal_masking.proofs.protect.Tie as tie
@@ -20,11 +21,12 @@ copy-masked-requires c κs =
     (omega (arith, c .before .before .before .before .before .before .put .kept .0), omega arith)
 
 returns : tie.Need-returns
+unfolding onFirst
 returns c =
     let a = c .before .before .before .before .before .before .before .before .before .before .before .before .before .before .before .before .before .before .args in
     let buffer = a .buffer .now in
     let short = ap (take (a .count)) (c .before .before .before .before .before .before .before .before .before .before .before .before .before .copy .ensures) ∙ number-taken (replicate 4 0) buffer (a .place) (a .place + a .count - a .place) (a .count) (omega arith) (omega arith) in
-    mask-laid (a .t1) buffer _ _ _ (a .place) (a .count) (search needs) (c .before .before .before .before .before .before .before .before .before .put .ensures) short (c .before .before .copy-masked .ensures)
+    mask-laid (a .t1) buffer _ _ _ (a .place) (a .count) _ (search needs) (c .before .before .before .before .before .before .before .before .before .put .ensures) refl short (c .before .before .copy-masked .ensures)
 
 pub protect-spec : {M : Type 1} → statement M
 protect-spec =
