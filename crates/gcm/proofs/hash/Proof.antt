@@ -3,7 +3,7 @@ use native.Mathlib.Omega.{arith}
 use borrow.Author.Needs.{needs}
 use Rattle.gcm_hash.specs.Hash.{state}
 use Rattle.gcm_field.specs.Field.{num}
-use Rattle.gcm_product.specs.Table.{keyOf}
+use Rattle.gcm_table.specs.Table.{keyOf}
 use Rattle.gcm.proofs.Tagging.{hash-is}
 use Rattle.gcm.proofs.hash.Statement.{statement}
 use Rattle.gcm.proofs.hash.Tie as tie

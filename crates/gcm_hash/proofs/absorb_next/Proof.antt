@@ -6,7 +6,7 @@ use borrow.Author.Needs.{needs}
 use lib.Bits.{bitXor}
 use lib.ListN.{length, drop}
 use Rattle.gcm_field.specs.Field.{_•_, num}
-use Rattle.gcm_product.specs.Table.{keyOf}
+use Rattle.gcm_table.specs.Table.{keyOf}
 use Rattle.gcm_hash.specs.Hash.{absorbed}
 use Rattle.gcm_hash.proofs.Stream.{at, absorbed-byte, absorbed-block}
 use Rattle.gcm_hash.proofs.absorb_next.Statement.{statement}

@@ -4,7 +4,7 @@ use mathlib.Core.Path.{ap, ap₂, _∙_}
 use borrow.Author.Needs.{needs}
 use lib.Bits.{bitXor}
 use Rattle.gcm_product.proofs.Runs.{four-runs}
-use Rattle.gcm_product.specs.Table.{entryOf, keyOf}
+use Rattle.gcm_table.specs.Table.{entryOf, keyOf}
 use Rattle.gcm_product.proofs.four.Statement.{statement}
 use Rattle.gcm_product.proofs.four.Tie as tie
 

@@ -6,7 +6,7 @@ use Prim.Native.Nat.{_-_, _*_, _/_}
 use lib.ListN.{length}
 use lib.Seq.{take-all}
 use Rattle.octets.specs.Octets.{bytes, number}
-use Rattle.gcm_product.specs.Table.{keyOf}
+use Rattle.gcm_table.specs.Table.{keyOf}
 use Rattle.gcm_hash.specs.Hash.{state}
 use Rattle.measured.proofs.Blocks.{stream-is}
 use Rattle.measured.proofs.dw_measure_ghash.Statement.{statement}

@@ -1,10 +1,10 @@
 -- The entry of 0, then those of 1, of 2 and 3, of 4 to 7, of 8 to 15.
 use borrow.Author.Needs.{needs}
 use lib.Bits.{xor-shifted}
-use Rattle.gcm_product.proofs.Filling.{run-filled}
+use Rattle.gcm_table.proofs.Filling.{run-filled}
 use Rattle.gcm_field.specs.Field.{num}
-use Rattle.gcm_product.proofs.fill_run.Statement.{statement}
-use Rattle.gcm_product.proofs.fill_run.Tie as tie
+use Rattle.gcm_table.proofs.fill_run.Statement.{statement}
+use Rattle.gcm_table.proofs.fill_run.Tie as tie
 
 double-requires : tie.Need-double-requires
 double-requires c κs = (search needs, search needs, search needs, search needs, λ k l. xor-shifted 1 0 k l)

@@ -2,8 +2,8 @@
 use native.Mathlib.Omega.{arith}
 use borrow.Author.Needs.{needs}
 use lib.ListN.{length-set}
-use Rattle.gcm_product.proofs.set_entry.Statement.{statement}
-use Rattle.gcm_product.proofs.set_entry.Tie as tie
+use Rattle.gcm_table.proofs.set_entry.Statement.{statement}
+use Rattle.gcm_table.proofs.set_entry.Tie as tie
 
 slice-write-table-2 : tie.Need-slice-write-table-2
 slice-write-table-2 c = simp length-set (omega arith)

@@ -8,7 +8,7 @@ use native.Mathlib.Omega.{arith}
 use lib.ListN.{length, getD}
 use lib.Seq.{ext-getD}
 use Rattle.gcm_field.specs.Field.{nexts, steps}
-use Rattle.gcm_product.specs.Table.{entryOf, keyOf, Table}
+use Rattle.gcm_table.specs.Table.{entryOf, keyOf, Table}
 
 module _ (s t : List ℕ) (words : (i : ℕ) → getD s i 0 < 2 ^ 64) (words′ : (i : ℕ) → getD t i 0 < 2 ^ 64) (r : Table s) (r′ : Table t) (key : keyOf s ≡ keyOf t) where
   entries : (e : ℕ) → e < 128 → entryOf s e ≡ entryOf t e
