@@ -1,8 +1,8 @@
 -- Whole blocks, with room for nine bytes behind the tail, and not a block more.
 use borrow.Author.Needs.{needs}
 use native.Mathlib.Omega.{arith}
-use Rattle.sha256.proofs.padded_length.Statement.{statement}
-use Rattle.sha256.proofs.padded_length.Tie as tie
+use Rattle.sha256_padding.proofs.padded_length.Statement.{statement}
+use Rattle.sha256_padding.proofs.padded_length.Tie as tie
 
 returns : tie.Need-returns
 returns c = (omega arith, omega arith, omega arith)
