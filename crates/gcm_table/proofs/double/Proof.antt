@@ -5,10 +5,10 @@ use native.Mathlib.Omega.{arith}
 use borrow.Author.Needs.{needs}
 use lib.ListN.{length, length-set}
 use Rattle.gcm_field.specs.Field.{num, nexts, steps}
-use Rattle.gcm_product.specs.Table.{Filled}
-use Rattle.gcm_product.proofs.Filling.{double-turn}
-use Rattle.gcm_product.proofs.double.Statement.{statement}
-use Rattle.gcm_product.proofs.double.Tie as tie
+use Rattle.gcm_table.specs.Table.{Filled}
+use Rattle.gcm_table.proofs.Filling.{double-turn}
+use Rattle.gcm_table.proofs.double.Statement.{statement}
+use Rattle.gcm_table.proofs.double.Tie as tie
 
 abbrev Inv-loop : tie.InvT-loop
 Inv-loop table₀ e i w k₀ table k =

@@ -1,22 +1,10 @@
 -- The entry of 0, then those of 1, of 2 and 3, of 4 to 7, of 8 to 15.
 use borrow.Author.Needs.{needs}
 use lib.Bits.{xor-shifted}
-use Rattle.gcm_product.proofs.Filling.{run-filled}
+use Rattle.gcm_table.proofs.Filling.{run-filled}
 use Rattle.gcm_field.specs.Field.{num}
-use Rattle.gcm_product.proofs.fill_run.Statement.{statement}
-use Rattle.gcm_product.proofs.fill_run.Tie as tie
-
-shifted-requires : tie.Need-shifted-requires
-shifted-requires c κs = search needs
-
-shifted-requires-2 : tie.Need-shifted-requires-2
-shifted-requires-2 c κs = search needs
-
-shifted-requires-3 : tie.Need-shifted-requires-3
-shifted-requires-3 c κs = search needs
-
-set-entry-requires : tie.Need-set-entry-requires
-set-entry-requires c κs = search needs
+use Rattle.gcm_table.proofs.fill_run.Statement.{statement}
+use Rattle.gcm_table.proofs.fill_run.Tie as tie
 
 double-requires : tie.Need-double-requires
 double-requires c κs = (search needs, search needs, search needs, search needs, λ k l. xor-shifted 1 0 k l)
@@ -29,9 +17,6 @@ double-requires-3 c κs = (search needs, search needs, search needs, search need
 
 double-requires-4 : tie.Need-double-requires-4
 double-requires-4 c κs = (search needs, search needs, search needs, search needs, λ k l. xor-shifted 1 3 k l)
-
-same-length : tie.Need-same-length
-same-length c = search needs
 
 returns : tie.Need-returns
 returns c =
@@ -49,13 +34,13 @@ pub fill-run-spec : {M : Type 1} → statement M
 fill-run-spec =
     tie.close
     (tie.spec
-    shifted-requires
-    shifted-requires-2
-    shifted-requires-3
-    set-entry-requires
+    (λ c κs. search needs)
+    (λ c κs. search needs)
+    (λ c κs. search needs)
+    (λ c κs. search needs)
     double-requires
     double-requires-2
     double-requires-3
     double-requires-4
-    same-length
+    (λ c. search needs)
     returns)

@@ -5,11 +5,11 @@ use native.Mathlib.Omega.{arith}
 use borrow.Author.Needs.{needs}
 use lib.ListN.{length}
 use Rattle.gcm_field.specs.Field.{num, nexts}
-use Rattle.gcm_product.specs.Table.{Filled}
+use Rattle.gcm_table.specs.Table.{Filled}
 use Rattle.gcm_field.proofs.Linear.{nexts-none, nexts-add}
-use Rattle.gcm_product.proofs.Filling.{filled-key, filled-table}
-use Rattle.gcm_product.proofs.make_table.Statement.{statement}
-use Rattle.gcm_product.proofs.make_table.Tie as tie
+use Rattle.gcm_table.proofs.Filling.{filled-key, filled-table}
+use Rattle.gcm_table.proofs.make_table.Statement.{statement}
+use Rattle.gcm_table.proofs.make_table.Tie as tie
 
 abbrev Inv-loop : tie.InvT-loop
 Inv-loop table₀ v₀ e₀ table v e = (e ≤ 128) × (e % 16 ≡ 0) × (length table ≡ 256) × (num v ≡ nexts e (num v₀)) × Filled (num v₀) table e

@@ -9,7 +9,7 @@ use lib.Bits.{bitXor, xor-zero-r}
 use lib.ListN.{length, getD, set, length-set}
 use lib.Seq.{getD-set-same, getD-set-other}
 use Rattle.gcm_field.specs.Field.{bit, next, steps, nexts}
-use Rattle.gcm_product.specs.Table.{entryOf, Right, Filled, Doubled, keyOf, Table}
+use Rattle.gcm_table.specs.Table.{entryOf, Right, Filled, Doubled, keyOf, Table}
 use Rattle.gcm_field.proofs.Linear.{nexts-none, steps-xor}
 
 -- a table with entry e written

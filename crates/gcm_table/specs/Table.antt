@@ -1,15 +1,9 @@
 -- The table by which a hash key multiplies: for each of the eight runs of 16 bits of a block, the multiples by its four highest bits.
-use Prim.Native.Nat.{ℕ, zero, suc, _+_, _*_, _/_, _%_, _^_, _<_}
-use lib.Bits.{bitXor}
+use Prim.Native.Nat.{ℕ, _+_, _*_, _/_, _%_, _^_, _<_}
 use mathlib.Core.Path.{_≡_}
 use mathlib.Core.List.{List}
 use lib.ListN.{getD}
 use Rattle.gcm_field.specs.Field.{nexts, steps}
-
--- what the steps for the m low bits of each of w's p lowest runs of 16 bits add to Z, V being that of the first of these runs
-unfoldable pub runs : ℕ → ℕ → ℕ → ℕ → ℕ
-runs m zero w v = 0
-runs m (suc p) w v = bitXor (steps m (w / 2 ^ (16 * p)) 0 v) (runs m p w (nexts 16 v))
 
 -- entry e of a table, which is two words
 abbrev pub entryOf : List ℕ → ℕ → ℕ
