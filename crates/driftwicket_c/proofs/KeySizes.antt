@@ -9,7 +9,8 @@ use lib.Seq.{length-take-le}
 use Rattle.octets.specs.Outcome.{given}
 use Rattle.octets.proofs.Outcome.{passed, given-same}
 use Rattle.sha256_constants.specs.Constants.{H⁰}
-use Rattle.sha256.specs.Sha256.{padding, blocks, compressed, absorbed, hash}
+use Rattle.sha256_padding.specs.Padding.{padding}
+use Rattle.sha256.specs.Sha256.{blocks, compressed, absorbed, hash}
 use Rattle.sha256.proofs.Digest.{digest-length}
 use Rattle.hmac.specs.Hmac.{hmac}
 use Rattle.hkdf.specs.Hkdf.{T, Ts, expand, info, expandLabel}

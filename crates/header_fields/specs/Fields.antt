@@ -1,4 +1,4 @@
--- The fields of a long header, where each stands: RFC 9000 sections 16 and 17.2, with document 01's order of refusals.
+-- The fields of a long header, where each stands: RFC 9000 sections 16 and 17.2, in the order of docs/SCOPE.md, "Order of refusals".
 use Prim.Native.Nat.{ℕ, _+_}
 use mathlib.Core.List.{List}
 use lib.Dec.{leb}

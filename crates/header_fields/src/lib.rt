@@ -1,4 +1,4 @@
-// RFC 9000 sections 16 and 17.2: where a field of a long header stands, in document 01's order of refusals.
+// RFC 9000 sections 16 and 17.2: where a field of a long header stands, in the order of docs/SCOPE.md, "Order of refusals".
 use integers::Integer;
 use integers::read_integer;
 use octets::refusal;
@@ -48,7 +48,7 @@ pub fn id_at(datagram: &[u8], at: usize) -> Found
 }
 
 // An integer from a place on: where it ends, and its value.
-pub fn integer_at(datagram: &[u8], at: usize) -> Found
+fn integer_at(datagram: &[u8], at: usize) -> Found
     requires { ⌜ at ≤ length (now datagram) ⌝ }
     ensures { λ r. ⌜ foundAnswer r ≡ integerAt (now (datagram .entry)) at ⌝ }
 {

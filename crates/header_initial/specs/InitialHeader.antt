@@ -1,4 +1,4 @@
--- The header of an Initial packet, read: RFC 9000 section 17.2.2, with document 01's order of refusals.
+-- The header of an Initial packet, read: RFC 9000 section 17.2.2, in the order of docs/SCOPE.md, "Order of refusals".
 use Prim.Native.Nat.{ℕ}
 use mathlib.Core.List.{List}
 use mathlib.Core.Bool.{Bool}

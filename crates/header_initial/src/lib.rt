@@ -1,4 +1,4 @@
-// RFC 9000 section 17.2.2: the header of an Initial packet, read up to its number in document 01's order of refusals.
+// RFC 9000 section 17.2.2: the header of an Initial packet, read up to its number in the order of docs/SCOPE.md, "Order of refusals".
 use header_fields::Found;
 use header_fields::Place;
 use header_fields::field_at;

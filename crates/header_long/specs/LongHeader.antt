@@ -1,4 +1,4 @@
--- What every long header begins with, read: RFC 9000 section 17.2, with document 01's order of refusals.
+-- What every long header begins with, read: RFC 9000 section 17.2, in the order of docs/SCOPE.md, "Order of refusals".
 use Prim.Native.Nat.{ℕ, _/_, _%_}
 use mathlib.Core.List.{List}
 use mathlib.Core.Bool.{Bool, _&&_}

@@ -1,4 +1,4 @@
-// RFC 9000 section 17.2: what every long header begins with, read field by field in document 01's order of refusals.
+// RFC 9000 section 17.2: what every long header begins with, read field by field in the order of docs/SCOPE.md, "Order of refusals".
 use header_fields::Found;
 use header_fields::Place;
 use header_fields::id_at;
@@ -27,7 +27,7 @@ pub enum Kind {
 }
 
 // The version that a long header names, or why it names none.
-pub enum Version {
+enum Version {
     Refused(u8),
     Of(u32),
 }

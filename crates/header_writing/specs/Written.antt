@@ -1,4 +1,4 @@
--- The long header, written: RFC 9000 sections 16, 17.2 and 17.2.2, as document 01 has sealing write it.
+-- The long header, written: RFC 9000 sections 16, 17.2 and 17.2.2, as docs/SCOPE.md, "The packet", has sealing write it.
 use Prim.Native.Nat.{ℕ, _+_, _-_, _*_, _^_, _≤_, _<_}
 use mathlib.Core.List.{List, _∷_, _++_}
 use mathlib.Core.Bool.{cond}

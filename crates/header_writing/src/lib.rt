@@ -20,7 +20,7 @@ pub fn smallest_form(value: usize) -> usize
 }
 
 // An integer below 2^14 in two bytes.
-pub fn write_two(buffer: &mut [u8], at: usize, value: usize)
+fn write_two(buffer: &mut [u8], at: usize, value: usize)
     requires { ⌜ (value < 2 ^ 14) × (at + 2 ≤ length (now buffer)) ⌝ }
     ensures { λ _. ⌜ now (buffer .exit) ≡ laid (now (buffer .entry)) at (two value) ⌝ }
 {
@@ -28,7 +28,7 @@ pub fn write_two(buffer: &mut [u8], at: usize, value: usize)
 }
 
 // An integer below 2^30 in its smallest form.
-pub fn write_smallest(buffer: &mut [u8], at: usize, value: usize)
+fn write_smallest(buffer: &mut [u8], at: usize, value: usize)
     requires { ⌜ (value < 2 ^ 30) × (at + length (smallest value) ≤ length (now buffer)) ⌝ }
     ensures { λ _. ⌜ now (buffer .exit) ≡ laid (now (buffer .entry)) at (smallest value) ⌝ }
 {

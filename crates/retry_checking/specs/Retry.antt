@@ -1,4 +1,4 @@
--- Retry packets, checked: RFC 9000 section 17.2.5 and RFC 9001 section 5.8, with document 01's order of refusals.
+-- Retry packets, checked: RFC 9000 section 17.2.5 and RFC 9001 section 5.8, in the order of docs/SCOPE.md, "Order of refusals".
 use Prim.Native.Nat.{ℕ, _-_}
 use mathlib.Core.List.{List}
 use mathlib.Core.Bool.{true}

@@ -1,4 +1,4 @@
--- Retry packets, written: RFC 9000 section 17.2.5, with document 01's order of refusals.
+-- Retry packets, written: RFC 9000 section 17.2.5, in the order of docs/SCOPE.md, "Order of refusals".
 use Prim.Native.Nat.{ℕ, _%_}
 use mathlib.Core.List.{List, _∷_, _++_}
 use lib.Dec.{leb}

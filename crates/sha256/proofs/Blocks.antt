@@ -9,7 +9,8 @@ use Rattle.octets.specs.Octets.{part}
 use Rattle.octets.proofs.Parts.{to-end}
 use Rattle.sha256_constants.specs.Constants.{H⁰}
 use Rattle.sha256_schedule.specs.Schedule.{parsed}
-use Rattle.sha256.specs.Sha256.{compressed, absorbed, padding, digest, finished, hash}
+use Rattle.sha256_padding.specs.Padding.{padding}
+use Rattle.sha256.specs.Sha256.{compressed, absorbed, digest, finished, hash}
 
 absorbed-one : (h m : List ℕ) → 64 ≤ length m → absorbed h m ≡ absorbed (compressed h (take 64 m)) (drop 64 m)
 unfolding absorbed parsed

@@ -1,4 +1,3 @@
 pub mod Compression
 pub mod Blocks
-pub mod Padding
 pub mod Digest

@@ -1,18 +1,20 @@
 // SHA-256, by FIPS 180-4: the hash of a message, at once or on from a hash value after whole blocks.
 use sha256_constants::initial;
 use sha256_constants::round_constants;
+use sha256_padding::pad;
 use sha256_rounds::add_words;
 use sha256_rounds::all_rounds;
 use sha256_schedule::parse;
 use sha256_schedule::schedule;
 ghost use mathlib.Core.Path.{_≡_};
 ghost use mathlib.Core.List.{_++_};
-ghost use Prim.Native.Nat.{_+_, _*_, _%_, _^_, _≤_, _<_};
+ghost use Prim.Native.Nat.{_+_, _*_, _%_, _^_, _<_};
 ghost use lib.ListN.{length};
 ghost use Rattle.sha256_constants.specs.Constants.{K};
-ghost use Rattle.sha256.specs.Sha256.{compressed, absorbed, padding, digest, finished, hash};
+ghost use Rattle.sha256_padding.specs.Padding.{padding};
+ghost use Rattle.sha256.specs.Sha256.{compressed, absorbed, digest, finished, hash};
 
-// Section 6.2.2: the hash value after one block more, with the round constants lent.
+// Section 6.2.2: the hash value after one block more, with the round constants lent: a block does not copy them.
 fn compress_with(k: &[u32; 64], h: [u32; 8], block: &[u8]) -> [u32; 8]
     requires { ⌜ (now k ≡ K) × (length (now block) ≡ 64) ⌝ }
     ensures { λ r. ⌜ r ≡ compressed h (now (block .entry)) ⌝ }
@@ -59,24 +61,13 @@ fn digest_bytes(h: [u32; 8]) -> [u8; 32]
     bytes
 }
 
-// Section 5.1.1: how long a tail is when it is padded: the fewest blocks that hold it, 0x80 and the length's eight bytes.
-fn padded_length(tail: usize) -> usize
-    requires { ⌜ tail < 64 ⌝ }
-    ensures { λ r. ⌜ (r % 64 ≡ 0) × (tail + 9 ≤ r) × (r < tail + 9 + 64) ⌝ }
-{
-    (tail + 72) / 64 * 64
-}
-
 // Section 5.1.1: the hash value after the tail of a message of so many bytes, padded.
 fn close(k: &[u32; 64], h: [u32; 8], tail: &[u8], total: u64) -> [u32; 8]
     requires { ⌜ (now k ≡ K) × (length (now tail) < 64) × (total % 64 ≡ length (now tail)) × (8 * total < 2 ^ 64) ⌝ }
     ensures { λ r. ⌜ r ≡ absorbed h (now (tail .entry) ++ padding total) ⌝ }
 {
     let mut last = [0u8; 128];
-    let end = padded_length(tail.len());
-    octets::copy(&mut last, 0, tail);
-    last[tail.len()] = 0x80;
-    octets::store(&mut last, end - 8, 8, 8 * total);
+    let end = pad(&mut last, tail, total);
     absorb(k, h, &last[..end])
 }
 

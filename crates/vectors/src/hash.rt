@@ -58,7 +58,7 @@ fn hmac_vector(label: &[u8], key: &[u8], text: &[u8]) {
     let mut t = [0u8; 64];
     let key_count = terminal::decode(key, &mut k);
     let text_count = terminal::decode(text, &mut t);
-    print::line(label, &hkdf::hmac(&k[..key_count], &t[..text_count]));
+    print::line(label, &hmac::hmac(&k[..key_count], &t[..text_count]));
 }
 
 // HKDF-Extract of a salt and input keying material, both in hexadecimal.

@@ -1,4 +1,4 @@
--- Document 01, "Constants": the versions, and all that differs between them. RFC 9001 for version 1, the version 2 draft for 0x709a50c4.
+-- RFC 9000 section 15 and docs/SCOPE.md, "Constants": the versions, and all that differs between them. RFC 9001 for version 1, the version 2 draft for 0x709a50c4.
 use Prim.Native.Nat.{ℕ}
 use mathlib.Core.List.{List}
 use mathlib.Core.Bool.{Bool, _||_, cond}

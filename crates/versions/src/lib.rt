@@ -1,4 +1,4 @@
-// Document 01, "Constants": the versions, and all that differs between them but the labels.
+// RFC 9000 section 15 and docs/SCOPE.md, "Constants": the versions, and all that differs between them but the labels.
 ghost use mathlib.Core.Path.{_≡_};
 ghost use Rattle.versions.specs.Versions as Constants;
 ghost use Rattle.versions.specs.Versions.{known};

@@ -13,7 +13,7 @@ cast-len : tie.Need-cast-len
 cast-len c = omega (arith, c .shared-slice-known .given (c .before .before .args .at))
 
 returns-2 : tie.Need-returns-2
-returns-2 c = sym (id-long _ _ (c .before .before .if1 .left) (c .if2 .taken))
+returns-2 c = sym (id-long _ _ (c .before .before .if1 .left) (omega arith))
 
 returns-3 : tie.Need-returns-3
 returns-3 c = sym (id-short _ _ (c .before .before .before .if1 .left) (c .before .if2 .left) (omega arith))

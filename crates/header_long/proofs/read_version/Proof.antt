@@ -1,6 +1,7 @@
 -- Each answer is one law.
 use mathlib.Core.Path.{sym, ap, _∙_}
 use borrow.Author.Needs.{needs}
+use native.Mathlib.Omega.{arith}
 use Rattle.octets.specs.Outcome.{given}
 use Rattle.header_long.proofs.LongHeaders.{version-empty, version-large, version-form, version-short, version-found}
 use Rattle.header_long.proofs.read_version.Statement.{statement}
@@ -10,10 +11,10 @@ returns : tie.Need-returns
 returns c = sym (version-empty _ (c .if1 .taken))
 
 returns-2 : tie.Need-returns-2
-returns-2 c = sym (version-large _ (c .before .if1 .left) (c .if2 .taken))
+returns-2 c = sym (version-large _ (c .before .if1 .left) (omega arith))
 
 returns-3 : tie.Need-returns-3
-returns-3 c = sym (version-form _ (c .before .before .before .if1 .left) (c .before .before .if2 .left) (c .if3 .taken))
+returns-3 c = sym (version-form _ (c .before .before .before .if1 .left) (c .before .before .if2 .left) (omega arith))
 
 returns-4 : tie.Need-returns-4
 returns-4 c = sym (version-short _ (c .before .before .before .before .if1 .left) (c .before .before .before .if2 .left) (c .before .if3 .left) (c .if4 .taken))

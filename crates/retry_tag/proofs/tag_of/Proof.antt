@@ -5,7 +5,14 @@ use Rattle.retry_tag.proofs.tag_of.Statement.{statement}
 use Rattle.retry_tag.proofs.tag_of.Tie as tie
 
 returns : tie.Need-returns
-returns c = tag-made (c .before .before .before .before .before .before .before .before .before .before .before .before .before .args .number) (c .before .before .before .before .before .before .before .before .before .before .before .before .before .args .original .now) (c .before .before .before .before .before .before .before .before .before .before .before .before .before .args .packet .now) (c .before .before .before .before .before .before .before .before .before .before .retry-key .ensures) (c .before .before .before .before .before .before .before .before .before .retry-nonce .ensures) (c .before .before .before .before .before .before .before .expand-key .ensures) (c .before .before .before .before .before .hash-key .ensures) (c .make-tag .ensures)
+returns c =
+    let a = c .before .before .before .before .before .before .before .before .before .before .before .before .before .args in
+    tag-made (a .number) (a .original .now) (a .packet .now)
+    (c .before .before .before .before .before .before .before .before .before .before .retry-key .ensures)
+    (c .before .before .before .before .before .before .before .before .before .retry-nonce .ensures)
+    (c .before .before .before .before .before .before .before .expand-key .ensures)
+    (c .before .before .before .before .before .hash-key .ensures)
+    (c .make-tag .ensures)
 
 pub tag-of-spec : {M : Type 1} → statement M
 tag-of-spec =
