@@ -3,7 +3,7 @@ use c_forms::acknowledged_by;
 use c_key_record::KeyRecord;
 use c_key_record::load_keys;
 use numbers::FullPn;
-use seal::Sealing;
+use seal_judging::Sealing;
 ghost use Rattle.c_seal.specs.Promises.{DwSeal};
 
 // Seals a packet at the output's start, and reports its length.

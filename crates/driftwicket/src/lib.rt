@@ -33,5 +33,5 @@ pub use retry_parts::retry_source;
 pub use retry_parts::retry_token;
 pub use retry_writing::Writing;
 pub use retry_writing::write_retry;
-pub use seal::Sealing;
 pub use seal::seal;
+pub use seal_judging::Sealing;

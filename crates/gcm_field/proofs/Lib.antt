@@ -1,2 +1,3 @@
 pub mod Linear
 pub mod Words
+pub mod OneAnswer

@@ -7,7 +7,7 @@ ghost use Prim.Native.Nat.{_+_, _*_, _^_, _<_, _≤_};
 ghost use lib.ListN.{length};
 ghost use Rattle.octets.specs.Octets.{number, part};
 ghost use Rattle.gcm_field.specs.Field.{num};
-ghost use Rattle.gcm_product.specs.Table.{keyOf, Table};
+ghost use Rattle.gcm_table.specs.Table.{keyOf, Table};
 ghost use Rattle.gcm_hash.specs.Hash.{state, start, put, taken, absorbed, Onward, closed, finished};
 
 // GHASH on its way: Y with the bytes of the present block added, and how many those are.

@@ -8,7 +8,8 @@ use lib.Bits.{bitXor, xor-zero-r}
 use lib.Pow.{shr-shr}
 use Rattle.octets.proofs.Xor.{xor-assoc}
 use Rattle.gcm_field.specs.Field.{steps, _•_, nexts}
-use Rattle.gcm_product.specs.Table.{runs, entryOf, Filled}
+use Rattle.gcm_product.specs.Runs.{runs}
+use Rattle.gcm_table.specs.Table.{entryOf, Filled}
 use Rattle.gcm_field.proofs.Linear.{xor-swap, nexts-xor, nexts-zero, nexts-add, steps-sum, steps-add, steps-above, steps-low}
 
 pub runs-none : (p w v : ℕ) → runs 0 p w v ≡ 0

@@ -42,7 +42,7 @@ pub extern "C" fn dw_measure_blocks(schedule: &[u8; 176], buffer: &mut [u8])
 pub extern "C" fn dw_measure_ghash(key: &[u8; 16], source: &[u8], out: &mut [u8; 16])
     ensures { λ _. ⌜ now (out .exit) ≡ bytes 16 (ghash (number (now (key .entry))) (now (source .entry))) ⌝ }
 {
-    let table = gcm_product::make_table(gcm_hash::load_block(key, 0));
+    let table = gcm_table::make_table(gcm_hash::load_block(key, 0));
     let whole = source.len() / 16 * 16;
     let g = gcm_hash::absorb(gcm_hash::begin(), &table, &source[0..whole]);
     let y = g.y;

@@ -187,6 +187,7 @@ module _ (suite : Suite) (k : Keys) (e : ℕ) (d : List ℕ) (room : ℕ) where
                       ← tagged,
                       whole,
                     )
+                    refl
 
                 pub open-tag : same (tagIn d at len) tag ≡ false → opened suite k e d room ≡ refused 11
                 open-tag differs = open-judged ∙ rw differs

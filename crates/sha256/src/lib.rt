@@ -14,7 +14,7 @@ ghost use Rattle.sha256_constants.specs.Constants.{K};
 ghost use Rattle.sha256_padding.specs.Padding.{padding};
 ghost use Rattle.sha256.specs.Sha256.{compressed, absorbed, digest, finished, hash};
 
-// Section 6.2.2: the hash value after one block more, with the round constants lent.
+// Section 6.2.2: the hash value after one block more, with the round constants lent: a block does not copy them.
 fn compress_with(k: &[u32; 64], h: [u32; 8], block: &[u8]) -> [u32; 8]
     requires { ⌜ (now k ≡ K) × (length (now block) ≡ 64) ⌝ }
     ensures { λ r. ⌜ r ≡ compressed h (now (block .entry)) ⌝ }

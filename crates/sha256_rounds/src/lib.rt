@@ -54,14 +54,11 @@ pub fn all_rounds(k: &[u32; 64], h: [u32; 8], w: &[u32; 64]) -> [u32; 8]
 pub fn add_words(v: [u32; 8], h: [u32; 8]) -> [u32; 8]
     ensures { λ r. ⌜ r ≡ added v h ⌝ }
 {
-    [
-        wrapping_add_u32(v[0], h[0]),
-        wrapping_add_u32(v[1], h[1]),
-        wrapping_add_u32(v[2], h[2]),
-        wrapping_add_u32(v[3], h[3]),
-        wrapping_add_u32(v[4], h[4]),
-        wrapping_add_u32(v[5], h[5]),
-        wrapping_add_u32(v[6], h[6]),
-        wrapping_add_u32(v[7], h[7]),
-    ]
+    let mut next = h;
+    let mut i: usize = 0;
+    while i < 8 {
+        next[i] = wrapping_add_u32(v[i], h[i]);
+        i += 1;
+    }
+    next
 }

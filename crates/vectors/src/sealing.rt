@@ -2,7 +2,7 @@
 use crate::fields;
 use crate::print;
 use numbers::FullPn;
-use seal::Sealing;
+use seal_judging::Sealing;
 
 // A packet sealed into a buffer, which is as long as the call says.
 fn seal_into(line: &[u8], out: &mut [u8]) {

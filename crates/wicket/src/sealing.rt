@@ -2,7 +2,7 @@
 use console::answers;
 use console::fields;
 use numbers::FullPn;
-use seal::Sealing;
+use seal_judging::Sealing;
 use wicket_words::acknowledged;
 use wicket_words::keys_of;
 

@@ -3,31 +3,10 @@ use native.Mathlib.Omega.{arith}
 use borrow.Author.Needs.{needs}
 use Rattle.gcm_hash.specs.Hash.{state}
 use Rattle.gcm_field.specs.Field.{num}
-use Rattle.gcm_product.specs.Table.{keyOf}
+use Rattle.gcm_table.specs.Table.{keyOf}
 use Rattle.gcm.proofs.Tagging.{hash-is}
 use Rattle.gcm.proofs.hash.Statement.{statement}
 use Rattle.gcm.proofs.hash.Tie as tie
-
-make-table-requires : tie.Need-make-table-requires
-make-table-requires c κs = search needs
-
-begin-requires : tie.Need-begin-requires
-begin-requires c κs = search needs
-
-absorb-requires : tie.Need-absorb-requires
-absorb-requires c κs = search needs
-
-absorb-requires-2 : tie.Need-absorb-requires-2
-absorb-requires-2 c κs = search needs
-
-absorb-requires-3 : tie.Need-absorb-requires-3
-absorb-requires-3 c κs = search needs
-
-pad-requires : tie.Need-pad-requires
-pad-requires c κs = search needs
-
-absorb-requires-4 : tie.Need-absorb-requires-4
-absorb-requires-4 c κs = search needs
 
 add-associated : tie.Need-add-associated
 add-associated c = omega (arith, c .before .before .before .before .before .before .before .before .before .before .before .before .before .before .before .before .pre .0)
@@ -63,13 +42,13 @@ pub hash-spec : {M : Type 1} → statement M
 hash-spec =
     tie.close
     (tie.spec
-    make-table-requires
-    begin-requires
-    absorb-requires
-    absorb-requires-2
-    absorb-requires-3
-    pad-requires
-    absorb-requires-4
+    (λ c κs. search needs)
+    (λ c κs. search needs)
+    (λ c κs. search needs)
+    (λ c κs. search needs)
+    (λ c κs. search needs)
+    (λ c κs. search needs)
+    (λ c κs. search needs)
     add-associated
     add-associated-2
     finish-requires

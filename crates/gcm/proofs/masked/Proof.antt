@@ -7,27 +7,6 @@ use Rattle.gcm.proofs.Tagging.{masked-is}
 use Rattle.gcm.proofs.masked.Statement.{statement}
 use Rattle.gcm.proofs.masked.Tie as tie
 
-j0-requires : tie.Need-j0-requires
-j0-requires c κs = search needs
-
-encrypt-requires : tie.Need-encrypt-requires
-encrypt-requires c κs = search needs
-
-spelled-requires : tie.Need-spelled-requires
-spelled-requires c κs = search needs
-
-slice-aggregate-copy-masked : tie.Need-slice-aggregate-copy-masked
-slice-aggregate-copy-masked c = search needs
-
-slice-aggregate-copy-masked-2 : tie.Need-slice-aggregate-copy-masked-2
-slice-aggregate-copy-masked-2 c = search needs
-
-slice-aggregate-copy-masked-3 : tie.Need-slice-aggregate-copy-masked-3
-slice-aggregate-copy-masked-3 c = search needs
-
-copy-masked-requires : tie.Need-copy-masked-requires
-copy-masked-requires c κs = search needs
-
 returns : tie.Need-returns
 returns c =
     let spelled = c .before .before .before .before .before in
@@ -39,11 +18,11 @@ pub masked-spec : {M : Type 1} → statement M
 masked-spec =
     tie.close
     (tie.spec
-    j0-requires
-    encrypt-requires
-    spelled-requires
-    slice-aggregate-copy-masked
-    slice-aggregate-copy-masked-2
-    slice-aggregate-copy-masked-3
-    copy-masked-requires
+    (λ c κs. search needs)
+    (λ c κs. search needs)
+    (λ c κs. search needs)
+    (λ c. search needs)
+    (λ c. search needs)
+    (λ c. search needs)
+    (λ c κs. search needs)
     returns)

@@ -6,18 +6,6 @@ use Rattle.gcm_counter.proofs.Counting.{first-block}
 use Rattle.gcm_counter.proofs.j0.Statement.{statement}
 use Rattle.gcm_counter.proofs.j0.Tie as tie
 
-slice-aggregate-copy : tie.Need-slice-aggregate-copy
-slice-aggregate-copy c = search needs
-
-copy-requires : tie.Need-copy-requires
-copy-requires c κs = search needs
-
-slice-aggregate-store : tie.Need-slice-aggregate-store
-slice-aggregate-store c = search needs
-
-store-requires : tie.Need-store-requires
-store-requires c κs = search needs
-
 returns : tie.Need-returns
 returns c =
     let nonce = c .before .before .before .before .before .before .before .args .nonce .now in
@@ -26,4 +14,4 @@ returns c =
 pub j0-spec : {M : Type 1} → statement M
 j0-spec =
     tie.close
-    (tie.spec slice-aggregate-copy copy-requires slice-aggregate-store store-requires returns)
+    (tie.spec (λ c. search needs) (λ c κs. search needs) (λ c. search needs) (λ c κs. search needs) returns)

@@ -6,18 +6,6 @@ use Rattle.gcm_field.proofs.Linear.{nexts-add}
 use Rattle.gcm_field.proofs.next_run.Statement.{statement}
 use Rattle.gcm_field.proofs.next_run.Tie as tie
 
-shifted-by-four-requires : tie.Need-shifted-by-four-requires
-shifted-by-four-requires c κs = search needs
-
-shifted-by-four-requires-2 : tie.Need-shifted-by-four-requires-2
-shifted-by-four-requires-2 c κs = search needs
-
-shifted-by-four-requires-3 : tie.Need-shifted-by-four-requires-3
-shifted-by-four-requires-3 c κs = search needs
-
-shifted-by-four-requires-4 : tie.Need-shifted-by-four-requires-4
-shifted-by-four-requires-4 c κs = search needs
-
 returns : tie.Need-returns
 returns c =
     let v = num (c .before .before .before .before .args .v) in
@@ -29,8 +17,8 @@ pub next-run-spec : {M : Type 1} → statement M
 next-run-spec =
     tie.close
     (tie.spec
-    shifted-by-four-requires
-    shifted-by-four-requires-2
-    shifted-by-four-requires-3
-    shifted-by-four-requires-4
+    (λ c κs. search needs)
+    (λ c κs. search needs)
+    (λ c κs. search needs)
+    (λ c κs. search needs)
     returns)

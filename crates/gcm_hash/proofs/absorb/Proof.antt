@@ -4,7 +4,7 @@ use mathlib.Core.Path.{_≡_, refl, sym, _∙_}
 use native.Mathlib.Omega.{arith}
 use borrow.Author.Needs.{needs}
 use lib.ListN.{length, drop}
-use Rattle.gcm_product.specs.Table.{keyOf}
+use Rattle.gcm_table.specs.Table.{keyOf}
 use Rattle.gcm_hash.specs.Hash.{state, absorbed}
 use Rattle.gcm_hash.proofs.Stream.{absorbed-end}
 use Rattle.gcm_hash.proofs.absorb.Statement.{statement}

@@ -5,7 +5,7 @@ use native.Mathlib.Omega.{arith}
 use borrow.Author.Needs.{needs}
 use Rattle.gcm_hash.proofs.Stream.{at, taken-inner, taken-last}
 use Rattle.gcm_field.specs.Field.{num, _•_}
-use Rattle.gcm_product.specs.Table.{keyOf}
+use Rattle.gcm_table.specs.Table.{keyOf}
 use Rattle.gcm_hash.proofs.absorb_byte.Statement.{statement}
 use Rattle.gcm_hash.proofs.absorb_byte.Tie as tie
 

@@ -6,26 +6,11 @@ use borrow.Author.Needs.{needs}
 use lib.Bits.{bitXor}
 use lib.ListN.{length, drop}
 use Rattle.gcm_field.specs.Field.{_•_, num}
-use Rattle.gcm_product.specs.Table.{keyOf}
+use Rattle.gcm_table.specs.Table.{keyOf}
 use Rattle.gcm_hash.specs.Hash.{absorbed}
 use Rattle.gcm_hash.proofs.Stream.{at, absorbed-byte, absorbed-block}
 use Rattle.gcm_hash.proofs.absorb_next.Statement.{statement}
 use Rattle.gcm_hash.proofs.absorb_next.Tie as tie
-
-sub-if2 : tie.Need-sub-if2
-sub-if2 c = search needs
-
-load-block-requires : tie.Need-load-block-requires
-load-block-requires c κs = search needs
-
-add-requires : tie.Need-add-requires
-add-requires c κs = search needs
-
-times-requires : tie.Need-times-requires
-times-requires c κs = search needs
-
-add-t15 : tie.Need-add-t15
-add-t15 c = search needs
 
 returns : tie.Need-returns
 returns c =
@@ -44,15 +29,6 @@ returns c =
       inside = whole;
     }
 
-shared-slice-read-absorb-byte : tie.Need-shared-slice-read-absorb-byte
-shared-slice-read-absorb-byte c = search needs
-
-absorb-byte-requires : tie.Need-absorb-byte-requires
-absorb-byte-requires c κs = search needs
-
-add-t18 : tie.Need-add-t18
-add-t18 c = search needs
-
 returns-2 : tie.Need-returns-2
 returns-2 c =
     let a = c .before .before .before .before .before .args in
@@ -69,13 +45,13 @@ pub absorb-next-spec : {M : Type 1} → statement M
 absorb-next-spec =
     tie.close
     (tie.spec
-    sub-if2
-    load-block-requires
-    add-requires
-    times-requires
-    add-t15
+    (λ c. search needs)
+    (λ c κs. search needs)
+    (λ c κs. search needs)
+    (λ c κs. search needs)
+    (λ c. search needs)
     returns
-    shared-slice-read-absorb-byte
-    absorb-byte-requires
-    add-t18
+    (λ c. search needs)
+    (λ c κs. search needs)
+    (λ c. search needs)
     returns-2)

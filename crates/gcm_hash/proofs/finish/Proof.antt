@@ -5,7 +5,7 @@ use borrow.Author.Needs.{needs}
 use lib.Bits.{bitXor}
 use Rattle.gcm_hash.specs.Hash.{State, finished}
 use Rattle.gcm_field.specs.Field.{_•_}
-use Rattle.gcm_product.specs.Table.{keyOf}
+use Rattle.gcm_table.specs.Table.{keyOf}
 use Rattle.gcm_hash.proofs.finish.Statement.{statement}
 use Rattle.gcm_hash.proofs.finish.Tie as tie
 

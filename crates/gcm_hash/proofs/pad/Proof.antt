@@ -5,7 +5,7 @@ use native.Mathlib.Omega.{arith}
 use borrow.Author.Needs.{needs}
 use Rattle.gcm_hash.proofs.Stream.{at, closed-some, closed-none}
 use Rattle.gcm_field.specs.Field.{num}
-use Rattle.gcm_product.specs.Table.{keyOf}
+use Rattle.gcm_table.specs.Table.{keyOf}
 use Rattle.gcm_hash.proofs.pad.Statement.{statement}
 use Rattle.gcm_hash.proofs.pad.Tie as tie
 

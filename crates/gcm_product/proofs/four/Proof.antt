@@ -4,63 +4,9 @@ use mathlib.Core.Path.{ap, ap₂, _∙_}
 use borrow.Author.Needs.{needs}
 use lib.Bits.{bitXor}
 use Rattle.gcm_product.proofs.Runs.{four-runs}
-use Rattle.gcm_product.specs.Table.{entryOf, keyOf}
+use Rattle.gcm_table.specs.Table.{entryOf, keyOf}
 use Rattle.gcm_product.proofs.four.Statement.{statement}
 use Rattle.gcm_product.proofs.four.Tie as tie
-
-nibble-requires : tie.Need-nibble-requires
-nibble-requires c κs = search needs
-
-add-entry : tie.Need-add-entry
-add-entry c = search needs
-
-entry-requires : tie.Need-entry-requires
-entry-requires c κs = search needs
-
-add-entry-2 : tie.Need-add-entry-2
-add-entry-2 c = search needs
-
-nibble-requires-2 : tie.Need-nibble-requires-2
-nibble-requires-2 c κs = search needs
-
-add-entry-3 : tie.Need-add-entry-3
-add-entry-3 c = search needs
-
-entry-requires-2 : tie.Need-entry-requires-2
-entry-requires-2 c κs = search needs
-
-add-entry-4 : tie.Need-add-entry-4
-add-entry-4 c = search needs
-
-nibble-requires-3 : tie.Need-nibble-requires-3
-nibble-requires-3 c κs = search needs
-
-add-entry-5 : tie.Need-add-entry-5
-add-entry-5 c = search needs
-
-entry-requires-3 : tie.Need-entry-requires-3
-entry-requires-3 c κs = search needs
-
-add-entry-6 : tie.Need-add-entry-6
-add-entry-6 c = search needs
-
-nibble-requires-4 : tie.Need-nibble-requires-4
-nibble-requires-4 c κs = search needs
-
-add-entry-7 : tie.Need-add-entry-7
-add-entry-7 c = search needs
-
-entry-requires-4 : tie.Need-entry-requires-4
-entry-requires-4 c κs = search needs
-
-add-requires : tie.Need-add-requires
-add-requires c κs = search needs
-
-add-requires-2 : tie.Need-add-requires-2
-add-requires-2 c κs = search needs
-
-add-requires-3 : tie.Need-add-requires-3
-add-requires-3 c κs = search needs
 
 returns : tie.Need-returns
 returns c =
@@ -80,22 +26,22 @@ pub four-spec : {M : Type 1} → statement M
 four-spec =
     tie.close
     (tie.spec
-    nibble-requires
-    add-entry
-    entry-requires
-    add-entry-2
-    nibble-requires-2
-    add-entry-3
-    entry-requires-2
-    add-entry-4
-    nibble-requires-3
-    add-entry-5
-    entry-requires-3
-    add-entry-6
-    nibble-requires-4
-    add-entry-7
-    entry-requires-4
-    add-requires
-    add-requires-2
-    add-requires-3
+    (λ c κs. search needs)
+    (λ c. search needs)
+    (λ c κs. search needs)
+    (λ c. search needs)
+    (λ c κs. search needs)
+    (λ c. search needs)
+    (λ c κs. search needs)
+    (λ c. search needs)
+    (λ c κs. search needs)
+    (λ c. search needs)
+    (λ c κs. search needs)
+    (λ c. search needs)
+    (λ c κs. search needs)
+    (λ c. search needs)
+    (λ c κs. search needs)
+    (λ c κs. search needs)
+    (λ c κs. search needs)
+    (λ c κs. search needs)
     returns)

@@ -6,7 +6,8 @@ use borrow.Author.Needs.{needs}
 use lib.Bits.{bitXor}
 use Rattle.gcm_field.proofs.Linear.{nexts-none}
 use Rattle.gcm_field.specs.Field.{num}
-use Rattle.gcm_product.specs.Table.{runs, keyOf}
+use Rattle.gcm_product.specs.Runs.{runs}
+use Rattle.gcm_table.specs.Table.{keyOf}
 use Rattle.gcm_product.proofs.Runs.{Partly, product-start, product-turn, product-end}
 use Rattle.gcm_product.proofs.times.Statement.{statement}
 use Rattle.gcm_product.proofs.times.Tie as tie

@@ -11,9 +11,6 @@ use Rattle.integers.proofs.read_integer.Tie as tie
 returns : tie.Need-returns
 returns c = record { answer = sym (nothing-there _ (omega arith)) }
 
-shared-slice-read-power : tie.Need-shared-slice-read-power
-shared-slice-read-power c = search needs
-
 cast-power : tie.Need-cast-power
 cast-power c = omega (arith, c .shared-slice-known2 .given 0)
 
@@ -53,7 +50,7 @@ read-integer-spec =
     tie.close
     (tie.spec
     returns
-    shared-slice-read-power
+    (λ c. search needs)
     cast-power
     power-requires
     returns-2

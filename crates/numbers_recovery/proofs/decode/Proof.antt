@@ -8,24 +8,6 @@ use Rattle.numbers_recovery.proofs.Recovery.{decoded-above, decoded-top
 use Rattle.numbers_recovery.proofs.decode.Statement.{statement}
 use Rattle.numbers_recovery.proofs.decode.Tie as tie
 
-mul-power : tie.Need-mul-power
-mul-power c = search needs
-
-power-requires : tie.Need-power-requires
-power-requires c κs = search needs
-
-mul-power-2 : tie.Need-mul-power-2
-mul-power-2 c = search needs
-
-sub-power : tie.Need-sub-power
-sub-power c = search needs
-
-power-requires-2 : tie.Need-power-requires-2
-power-requires-2 c κs = search needs
-
-div-candidate : tie.Need-div-candidate
-div-candidate c = search needs
-
 mul-candidate : tie.Need-mul-candidate
 mul-candidate c =
     let a = c .before .before .args in
@@ -94,12 +76,12 @@ pub decode-spec : {M : Type 1} → statement M
 decode-spec =
     tie.close
     (tie.spec
-    mul-power
-    power-requires
-    mul-power-2
-    sub-power
-    power-requires-2
-    div-candidate
+    (λ c. search needs)
+    (λ c κs. search needs)
+    (λ c. search needs)
+    (λ c. search needs)
+    (λ c κs. search needs)
+    (λ c. search needs)
     mul-candidate
     add-candidate
     add-if1

@@ -16,17 +16,8 @@ returns-2 c = record { answer = sym (recover-empty _ _ _ (omega arith) (omega ar
 returns-3 : tie.Need-returns-3
 returns-3 c = record { answer = sym (recover-long _ _ _ (omega arith) (omega arith) (omega arith)) }
 
-mul-power : tie.Need-mul-power
-mul-power c = search needs
-
-power-requires : tie.Need-power-requires
-power-requires c κs = search needs
-
 returns-4 : tie.Need-returns-4
 returns-4 c = record { answer = sym (recover-wide _ _ _ (omega arith) (omega arith) (omega arith) (omega arith)) }
-
-decode-requires : tie.Need-decode-requires
-decode-requires c κs = search needs
 
 returns-5 : tie.Need-returns-5
 returns-5 c =
@@ -45,9 +36,9 @@ recover-spec =
     returns
     returns-2
     returns-3
-    mul-power
-    power-requires
+    (λ c. search needs)
+    (λ c κs. search needs)
     returns-4
-    decode-requires
+    (λ c κs. search needs)
     returns-5
     returns-6)

@@ -9,28 +9,10 @@ use Rattle.numbers_shortening.proofs.gap_above.Tie as tie
 returns : tie.Need-returns
 returns c = sym (gap-range _ _ (omega arith))
 
-enum-told : tie.Need-enum-told
-enum-told c = search needs
-
-add-covered : tie.Need-add-covered
-add-covered c = search needs
-
-covered-requires : tie.Need-covered-requires
-covered-requires c κs = search needs
-
-enum-known-acknowledged : tie.Need-enum-known-acknowledged
-enum-known-acknowledged c = search needs
-
 returns-2 : tie.Need-returns-2
 returns-2 c =
     let is = c .before .before .before .before .acknowledged .given .1 in
     rw is (sym (gap-behind _ (omega arith) _ (omega arith)))
-
-sub-covered : tie.Need-sub-covered
-sub-covered c = search needs
-
-covered-requires-2 : tie.Need-covered-requires-2
-covered-requires-2 c κs = search needs
 
 returns-3 : tie.Need-returns-3
 returns-3 c =
@@ -47,12 +29,12 @@ gap-above-spec =
     tie.close
     (tie.spec
     returns
-    enum-told
-    add-covered
-    covered-requires
-    enum-known-acknowledged
+    (λ c. search needs)
+    (λ c. search needs)
+    (λ c κs. search needs)
+    (λ c. search needs)
     returns-2
-    sub-covered
-    covered-requires-2
+    (λ c. search needs)
+    (λ c κs. search needs)
     returns-3
     returns-4)

@@ -8,15 +8,6 @@ use Rattle.numbers_shortening.proofs.Shortening.{shorten-refused, short
 use Rattle.numbers_shortening.proofs.shorten.Statement.{statement}
 use Rattle.numbers_shortening.proofs.shorten.Tie as tie
 
-gap-above-requires : tie.Need-gap-above-requires
-gap-above-requires c κs = search needs
-
-enum-known-why : tie.Need-enum-known-why
-enum-known-why c = search needs
-
-enum-known-distance : tie.Need-enum-known-distance
-enum-known-distance c = search needs
-
 returns : tie.Need-returns
 returns c =
     let is = sym (ap gapAnswer (c .before .before .distance .given .1)) ∙ c .before .before .before .before .gap-above .ensures in
@@ -27,25 +18,10 @@ returns-2 c =
     let is = sym (ap gapAnswer (c .before .before .before .distance .given .1)) ∙ c .before .before .before .before .before .gap-above .ensures in
     record { answer = sym (shorten-long _ _ _ is (omega arith) (omega arith)) }
 
-mul-power : tie.Need-mul-power
-mul-power c = search needs
-
-sub-power : tie.Need-sub-power
-sub-power c = search needs
-
-power-requires : tie.Need-power-requires
-power-requires c κs = search needs
-
 returns-3 : tie.Need-returns-3
 returns-3 c =
     let is = sym (ap gapAnswer (c .before .before .before .before .before .distance .given .1)) ∙ c .before .before .before .before .before .before .before .gap-above .ensures in
     record { answer = sym (shorten-wide _ _ _ is (omega arith) (omega arith) (omega arith)) }
-
-mul-power-2 : tie.Need-mul-power-2
-mul-power-2 c = search needs
-
-power-requires-2 : tie.Need-power-requires-2
-power-requires-2 c κs = search needs
 
 rem-t12 : tie.Need-rem-t12
 rem-t12 c = rw (c .before .power2 .ensures) (pow-pos _)
@@ -65,17 +41,17 @@ pub shorten-spec : {M : Type 1} → statement M
 shorten-spec =
     tie.close
     (tie.spec
-    gap-above-requires
-    enum-known-why
-    enum-known-distance
+    (λ c κs. search needs)
+    (λ c. search needs)
+    (λ c. search needs)
     returns
     returns-2
-    mul-power
-    sub-power
-    power-requires
+    (λ c. search needs)
+    (λ c. search needs)
+    (λ c κs. search needs)
     returns-3
-    mul-power-2
-    power-requires-2
+    (λ c. search needs)
+    (λ c κs. search needs)
     rem-t12
     returns-4
     returns-5)

@@ -10,26 +10,8 @@ use Rattle.numbers_shortening.proofs.Shortening.{smallest-refused, smal
 use Rattle.numbers_shortening.proofs.smallest_length.Statement.{statement}
 use Rattle.numbers_shortening.proofs.smallest_length.Tie as tie
 
-gap-above-requires : tie.Need-gap-above-requires
-gap-above-requires c κs = search needs
-
-enum-known-why : tie.Need-enum-known-why
-enum-known-why c = search needs
-
-enum-known-distance : tie.Need-enum-known-distance
-enum-known-distance c = search needs
-
 sub-bits : tie.Need-sub-bits
 sub-bits c = leading-le 64 _
-
-add-t8 : tie.Need-add-t8
-add-t8 c = search needs
-
-add-t9 : tie.Need-add-t9
-add-t9 c = search needs
-
-cast-t11 : tie.Need-cast-t11
-cast-t11 c = search needs
 
 returns : tie.Need-returns
 returns c =
@@ -47,12 +29,12 @@ pub smallest-length-spec : {M : Type 1} → statement M
 smallest-length-spec =
     tie.close
     (tie.spec
-    gap-above-requires
-    enum-known-why
-    enum-known-distance
+    (λ c κs. search needs)
+    (λ c. search needs)
+    (λ c. search needs)
     sub-bits
-    add-t8
-    add-t9
-    cast-t11
+    (λ c. search needs)
+    (λ c. search needs)
+    (λ c. search needs)
     returns
     returns-2)

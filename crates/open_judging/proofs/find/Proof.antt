@@ -17,26 +17,14 @@ use Rattle.open_judging.proofs.find.Tie as tie
 returns : tie.Need-returns
 returns c = open-expected aesGcm _ _ _ _ (omega arith)
 
-is-known-requires : tie.Need-is-known-requires
-is-known-requires c κs = search needs
-
 returns-2 : tie.Need-returns-2
 returns-2 c = open-version aesGcm _ _ _ _ (omega arith) (sym (c .before .is-known .ensures) ∙ not-true _ (c .if2 .taken))
-
-read-initial-requires : tie.Need-read-initial-requires
-read-initial-requires c κs = search needs
-
-enum-known-why : tie.Need-enum-known-why
-enum-known-why c = search needs
 
 returns-3 : tie.Need-returns-3
 returns-3 c =
     let h = c .before .before .before in
     let ours = sym (h .before .before .is-known .ensures) ∙ not-false _ (h .before .if2 .left) in
     open-header aesGcm _ _ _ _ (omega arith) ours (sym (ap readingAnswer (c .before .why .given .1)) ∙ h .read-initial .ensures)
-
-enum-known-header : tie.Need-enum-known-header
-enum-known-header c = search needs
 
 add-if3 : tie.Need-add-if3
 add-if3 c =
@@ -78,15 +66,6 @@ returns-5 c =
     let ours = sym (h .before .before .before .before .is-known .ensures) ∙ not-false _ (h .before .before .before .if2 .left) in
     open-reserved aesGcm (keysOf (a .keys)) (a .expected) (a .datagram .now) (a .room) (omega arith) ours read (omega arith) (c .before .unmask .ensures .bare) (λ z. omega arith)
 
-recover-requires : tie.Need-recover-requires
-recover-requires c κs = search needs
-
-enum-known-why-2 : tie.Need-enum-known-why-2
-enum-known-why-2 c = search needs
-
-enum-known-number : tie.Need-enum-known-number
-enum-known-number c = search needs
-
 returns-6 : tie.Need-returns-6
 returns-6 c =
     let h = c .before .before .before .before .before .before .before .before .before in
@@ -110,19 +89,19 @@ find-spec =
     tie.close
     (tie.spec
     returns
-    is-known-requires
+    (λ c κs. search needs)
     returns-2
-    read-initial-requires
-    enum-known-why
+    (λ c κs. search needs)
+    (λ c. search needs)
     returns-3
-    enum-known-header
+    (λ c. search needs)
     add-if3
     sub-if3
     returns-4
     unmask-requires
     returns-5
-    recover-requires
-    enum-known-why-2
-    enum-known-number
+    (λ c κs. search needs)
+    (λ c. search needs)
+    (λ c. search needs)
     returns-6
     returns-7)

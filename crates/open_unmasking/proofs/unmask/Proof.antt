@@ -12,51 +12,6 @@ use Rattle.open_unmasking.proofs.Masking.{short-taken, unmasks}
 use Rattle.open_unmasking.proofs.unmask.Statement.{statement}
 use Rattle.open_unmasking.proofs.unmask.Tie as tie
 
-mask-of-requires : tie.Need-mask-of-requires
-mask-of-requires c κs = search needs
-
-shared-slice-read-first : tie.Need-shared-slice-read-first
-shared-slice-read-first c = search needs
-
-array-read-first : tie.Need-array-read-first
-array-read-first c = search needs
-
-add-count : tie.Need-add-count
-add-count c = search needs
-
-cast-count : tie.Need-cast-count
-cast-count c = search needs
-
-add-end : tie.Need-add-end
-add-end c = search needs
-
-slice-aggregate-copy-masked : tie.Need-slice-aggregate-copy-masked
-slice-aggregate-copy-masked c = search needs
-
-sub-copy-masked : tie.Need-sub-copy-masked
-sub-copy-masked c = search needs
-
-part-copy-masked-start : tie.Need-part-copy-masked-start
-part-copy-masked-start c = search needs
-
-part-copy-masked-end : tie.Need-part-copy-masked-end
-part-copy-masked-end c = search needs
-
-sub-copy-masked-2 : tie.Need-sub-copy-masked-2
-sub-copy-masked-2 c = search needs
-
-part-copy-masked-start-2 : tie.Need-part-copy-masked-start-2
-part-copy-masked-start-2 c = search needs
-
-part-copy-masked-end-2 : tie.Need-part-copy-masked-end-2
-part-copy-masked-end-2 c = search needs
-
-copy-masked-requires : tie.Need-copy-masked-requires
-copy-masked-requires c κs = search needs
-
-array-share-prefix-short : tie.Need-array-share-prefix-short
-array-share-prefix-short c = search needs
-
 slice-aggregate-read-short : tie.Need-slice-aggregate-read-short
 slice-aggregate-read-short c = sym (length-take-le _ _ (omega (arith, c .before .before .copy-masked .kept .0)))
 
@@ -78,21 +33,21 @@ pub unmask-spec : {M : Type 1} → statement M
 unmask-spec =
     tie.close
     (tie.spec
-    mask-of-requires
-    shared-slice-read-first
-    array-read-first
-    add-count
-    cast-count
-    add-end
-    slice-aggregate-copy-masked
-    sub-copy-masked
-    part-copy-masked-start
-    part-copy-masked-end
-    sub-copy-masked-2
-    part-copy-masked-start-2
-    part-copy-masked-end-2
-    copy-masked-requires
-    array-share-prefix-short
+    (λ c κs. search needs)
+    (λ c. search needs)
+    (λ c. search needs)
+    (λ c. search needs)
+    (λ c. search needs)
+    (λ c. search needs)
+    (λ c. search needs)
+    (λ c. search needs)
+    (λ c. search needs)
+    (λ c. search needs)
+    (λ c. search needs)
+    (λ c. search needs)
+    (λ c. search needs)
+    (λ c κs. search needs)
+    (λ c. search needs)
     slice-aggregate-read-short
     read-short-requires
     returns)

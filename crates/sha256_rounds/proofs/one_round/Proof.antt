@@ -1,13 +1,14 @@
 -- The eight variables, with what the four calls ensure put in.
 use borrow.Author.Needs.{needs}
-use Rattle.sha256_rounds.specs.Rounds.{round}
+use Rattle.sha256_rounds.proofs.Sums.{rounded}
 use Rattle.sha256_rounds.proofs.one_round.Statement.{statement}
 use Rattle.sha256_rounds.proofs.one_round.Tie as tie
 
 returns : tie.Need-returns
-unfolding round
 returns c =
-    rw (c .wrapping-add-u322 .ensures, c .before .wrapping-add-u32 .ensures, c .before .before .temporary2 .ensures, c .before .before .before .temporary1 .ensures)
+    let b = c .before .before .before in
+    let a = b .before .args in
+    rounded (a .k) (a .w) (a .t1) (b .temporary1 .ensures) (c .before .before .temporary2 .ensures) (c .before .wrapping-add-u32 .ensures) (c .wrapping-add-u322 .ensures)
 
 pub one-round-spec : {M : Type 1} → statement M
 one-round-spec =
