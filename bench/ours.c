@@ -11,11 +11,12 @@ static struct {
     const uint8_t *packet;
     uint8_t schedule[176];
     uint8_t blocks[MOST_BYTES];
-    uint8_t keys[48];
+    uint8_t keys[DW_KEYS_SIZE];
 } at;
 
 static void derive(void) {
-    if (dw_initial_keys(1, input.destination, sizeof input.destination, 0, at.keys) != 0) give_up("our keys were refused");
+    if (dw_initial_keys(DW_VERSION_1, input.destination, sizeof input.destination, 0, at.keys) != DW_OK)
+        give_up("our keys were refused");
 }
 
 static int prepare(enum kind kind, size_t size, const uint8_t *packet) {
@@ -30,18 +31,19 @@ static int prepare(enum kind kind, size_t size, const uint8_t *packet) {
 }
 
 static size_t seal(uint8_t *answer) {
-    uint64_t length;
+    uint64_t report[DW_SEALED_REPORT];
     size_t payload = at.size - HEADER_BYTES - TAG_BYTES;
     if (dw_seal(at.keys, input.number, 0, 0, 4, input.destination, sizeof input.destination, input.bytes, 0, input.bytes, 0,
-                input.bytes, payload, answer, MOST_BYTES, &length) != 0)
+                input.bytes, payload, answer, MOST_BYTES, report) != DW_OK)
         give_up("our seal was refused");
-    return length;
+    return report[DW_SEALED_LEN];
 }
 
 static size_t open_packet(uint8_t *answer) {
-    uint64_t expected = input.number, report[5];
-    if (dw_open(at.keys, &expected, at.packet, at.size, answer, MOST_BYTES, report) != 0) give_up("our opening was refused");
-    return report[2] + report[3];
+    uint64_t expected = input.number, report[DW_OPENED_REPORT];
+    if (dw_open(at.keys, &expected, at.packet, at.size, answer, MOST_BYTES, report) != DW_OK)
+        give_up("our opening was refused");
+    return report[DW_OPENED_HEADER_LEN] + report[DW_OPENED_PAYLOAD_LEN];
 }
 
 static size_t gcm(uint8_t *answer) {

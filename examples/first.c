@@ -13,48 +13,46 @@ static void print_hex(const char *name, const uint8_t *bytes, size_t len)
     printf("\n");
 }
 
+/* Whether an answer is a refusal, which is then told. */
+static int refused(uint32_t answer)
+{
+    if (answer != DW_OK)
+        printf("refusal %" PRIu32 ": %s\n", answer, dw_refusal_words(answer));
+    return answer != DW_OK;
+}
+
 int main(void)
 {
     /* The client chose this destination connection ID at random. */
     const uint8_t destination[] = {0x83, 0x94, 0xc8, 0xf0, 0x3e, 0x51, 0x57, 0x08};
     const char *text = "hello, archive";
-    uint8_t keys[48];
-    uint8_t packet[DW_LIMIT];
-    uint8_t opened[DW_LIMIT];
-    uint64_t report[9];
-    uint64_t expected = 0;
-    size_t length;
-    uint32_t refused;
+    uint8_t keys[DW_KEYS_SIZE], packet[DW_LIMIT], plain[DW_LIMIT];
+    uint64_t sealed[DW_SEALED_REPORT], header[DW_HEADER_REPORT], opened[DW_OPENED_REPORT], expected = 0;
 
     /* The client: its keys, and packet number 2 in one byte. Nothing is acknowledged yet; no source ID and no token. */
-    refused = dw_initial_keys(DW_VERSION_1, destination, sizeof destination, 0, keys);
-    if (refused == DW_OK)
-        refused = dw_seal(keys, 2, 0, 0, 1, destination, sizeof destination, NULL, 0, NULL, 0, (const uint8_t *)text,
-                          strlen(text), packet, sizeof packet, report);
-    if (refused != DW_OK) {
-        printf("refused: %" PRIu32 "\n", refused);
+    if (refused(dw_initial_keys(DW_VERSION_1, destination, sizeof destination, 0, keys)))
         return 1;
-    }
-    length = (size_t)report[0];
-    print_hex("sealed ", packet, length);
+    if (refused(dw_seal(keys, 2, 0, 0, 1, destination, sizeof destination, NULL, 0, NULL, 0,
+                        (const uint8_t *)text, strlen(text), packet, sizeof packet, sealed)))
+        return 1;
+    size_t length = (size_t)sealed[DW_SEALED_LEN];
 
     /* The server: it finds the destination ID in the header, and makes the client's keys from it. */
-    refused = dw_read_header(packet, length, report);
-    if (refused == DW_OK)
-        refused = dw_initial_keys((uint32_t)report[0], packet + report[1], (size_t)report[2], 0, keys);
-    if (refused == DW_OK)
-        refused = dw_open(keys, &expected, packet, length, opened, sizeof opened, report);
-    if (refused != DW_OK) {
-        printf("refused: %" PRIu32 "\n", refused);
+    if (refused(dw_read_header(packet, length, header)))
         return 1;
-    }
-    print_hex("header ", opened, (size_t)report[2]);
-    printf("payload %.*s\n", (int)report[3], (const char *)opened + report[2]);
-    printf("number  %" PRIu64 ", and %" PRIu64 " is expected next\n", report[0], expected);
+    if (refused(dw_initial_keys((uint32_t)header[DW_HEADER_VERSION], packet + header[DW_HEADER_DESTINATION_AT],
+                                (size_t)header[DW_HEADER_DESTINATION_LEN], 0, keys)))
+        return 1;
+    if (refused(dw_open(keys, &expected, packet, length, plain, sizeof plain, opened)))
+        return 1;
 
-    /* A packet with one bit turned is refused, and nothing that was lent has changed. */
+    print_hex("sealed ", packet, length);
+    print_hex("header ", plain, (size_t)opened[DW_OPENED_HEADER_LEN]);
+    printf("payload %.*s\n", (int)opened[DW_OPENED_PAYLOAD_LEN], (const char *)plain + opened[DW_OPENED_HEADER_LEN]);
+    printf("number  %" PRIu64 ", and %" PRIu64 " is expected next\n", opened[DW_OPENED_NUMBER], expected);
+
+    /* A packet with one bit turned over is refused, and nothing that was lent has changed: it is dropped. */
     packet[length - 1] ^= 1;
-    refused = dw_open(keys, &expected, packet, length, opened, sizeof opened, report);
-    printf("damaged: refusal %" PRIu32 "%s\n", refused, refused == DW_TAG ? ", the tag doesn't match" : "");
-    return refused == DW_TAG ? 0 : 1;
+    printf("damaged ");
+    return refused(dw_open(keys, &expected, packet, length, plain, sizeof plain, opened)) ? 0 : 1;
 }

@@ -9,13 +9,19 @@
  * Each function is proved: for all input its answer, its report and every byte that it was lent are what its contract
  * says (crates/driftwicket_c/specs/Promises.antt), it ends, and it touches nothing else.
  *
- * THE ANSWER of every function is DW_OK (0), or the number of a refusal (enum dw_refusal).
+ * THE ANSWER of every function is DW_OK (0), or the number of a refusal (enum dw_refusal; dw_refusal_words tells it).
  *
- * THE REPORT is what a function has to tell beside that, as numbers in the order given with the function. It is written
- * with the answer 0 alone.
+ * THE REPORT is what a function has to tell beside that: numbers, whose places the enum before the function names, and
+ * by its last name how many they are. Where a name ends in AT it is a place in the datagram, and where it ends in LEN
+ * it is how many bytes stand there. The report is written with the answer 0 alone.
  *
  * A REFUSAL changes nothing: report, output, keys and expected number stay as they were, to the last byte. Where
  * several things are wrong, the refusal is the first that applies in the order given with the function.
+ *
+ * DROP a packet that dw_open refuses with 9, 10 or 11, or dw_check_retry with 11, and close nothing. Anybody on the
+ * path can bring these about: rubbish, damage and packets sealed with other keys get any of them. Of packets sealed
+ * with other keys three in four get 9, for the reserved bits are judged before the tag. So 9 is not the connection
+ * error of RFC 9000 section 17.2, which is for bits that are authentic.
  *
  * MEMORY. The library allocates nothing, keeps nothing between calls and has no state of its own. The caller lends:
  *   - a pointer followed by a length names that many bytes, which must be there for the time of the call. Where the
@@ -46,7 +52,12 @@
 extern "C" {
 #endif
 
-/* The versions. */
+/* The version of this library. */
+#define DW_LIBRARY_VERSION_MAJOR 0
+#define DW_LIBRARY_VERSION_MINOR 2
+#define DW_LIBRARY_VERSION_PATCH 0
+
+/* The versions of QUIC. */
 #define DW_VERSION_1 0x00000001u /* RFC 9000 */
 #define DW_DRAFT_2 0x709a50c4u   /* the version 2 draft */
 
@@ -59,30 +70,57 @@ extern "C" {
 
 /* The answers. */
 enum dw_refusal {
-    DW_OK = 0,        /* done */
-    DW_SIZE = 1,      /* the datagram is empty or over 1,500 bytes; the packet to be written would be over 1,500 */
-    DW_FORM = 2,      /* the form bit or the fixed bit of the first byte is clear */
-    DW_NOT_WHOLE = 3, /* a field isn't whole */
-    DW_VERSION = 4,   /* the version is unknown, or isn't that of the keys */
-    DW_LONG_ID = 5,   /* a connection ID is over 20 bytes */
-    DW_TYPE = 6,      /* the packet is of another type */
-    DW_SHORT = 7,     /* Length is below 20; in sealing, the number's length and the payload's are below 4 together */
-    DW_ROOM = 8,      /* the output is smaller than what would be written */
-    DW_RESERVED = 9,  /* the reserved bits aren't zero once the header's mask is off */
-    DW_RANGE = 10,    /* the expected number is above 2^62; a number to seal, or one recovered, is above 2^62 - 1 */
-    DW_TAG = 11,      /* the tag doesn't match: the packet was damaged, or sealed with other keys */
-    DW_LENGTH = 12,   /* the number's length isn't 1 to 4, or is too short for the gap or for the short number */
-    DW_NO_TOKEN = 13, /* the Retry token is empty */
-    DW_GAP = 14       /* the acknowledged number isn't below the number, or the gap is 2^31 or more */
+    DW_OK = 0,                /* done */
+    DW_REFUSED_SIZE = 1,      /* the datagram is empty, or over 1,500 bytes as it came or would be written */
+    DW_REFUSED_FORM = 2,      /* the form bit or the fixed bit of the first byte is clear */
+    DW_REFUSED_NOT_WHOLE = 3, /* a field isn't whole */
+    DW_REFUSED_VERSION = 4,   /* the version is unknown, or isn't that of the keys */
+    DW_REFUSED_LONG_ID = 5,   /* a connection ID is over 20 bytes */
+    DW_REFUSED_TYPE = 6,      /* the packet is of another type */
+    DW_REFUSED_SHORT = 7,     /* Length is below 20; in sealing, number and payload have fewer than 4 bytes together */
+    DW_REFUSED_ROOM = 8,      /* the output is smaller than what would be written */
+    DW_REFUSED_RESERVED = 9,  /* the reserved bits aren't zero once the header's mask is off: see DROP above */
+    DW_REFUSED_RANGE = 10,    /* the expected number is above 2^62, or another number above 2^62 - 1; see DROP above */
+    DW_REFUSED_TAG = 11,      /* the tag doesn't match: see DROP above */
+    DW_REFUSED_LENGTH = 12,   /* the number's length isn't 1 to 4, or is too short for the gap or the short number */
+    DW_REFUSED_NO_TOKEN = 13, /* the Retry token is empty */
+    DW_REFUSED_GAP = 14       /* the acknowledged number isn't below the number, or the gap is 2^31 or more */
 };
+
+/* An answer in words. */
+static inline const char *dw_refusal_words(uint32_t answer)
+{
+    switch (answer) {
+    case DW_OK: return "done";
+    case DW_REFUSED_SIZE: return "the datagram is empty, or over 1,500 bytes";
+    case DW_REFUSED_FORM: return "the form bit or the fixed bit is clear";
+    case DW_REFUSED_NOT_WHOLE: return "a field isn't whole";
+    case DW_REFUSED_VERSION: return "the version is unknown, or not that of the keys";
+    case DW_REFUSED_LONG_ID: return "a connection ID is over 20 bytes";
+    case DW_REFUSED_TYPE: return "the packet is of another type";
+    case DW_REFUSED_SHORT: return "Length is below 20, or there is too little to seal";
+    case DW_REFUSED_ROOM: return "the output is too small";
+    case DW_REFUSED_RESERVED: return "the reserved bits aren't zero after unmasking";
+    case DW_REFUSED_RANGE: return "a number is out of range";
+    case DW_REFUSED_TAG: return "the tag doesn't match";
+    case DW_REFUSED_LENGTH: return "the number's length isn't 1 to 4, or is too short";
+    case DW_REFUSED_NO_TOKEN: return "the Retry token is empty";
+    case DW_REFUSED_GAP: return "the acknowledged number isn't below the number, or no length covers the gap";
+    default: return "no refusal has this number";
+    }
+}
 
 /*
  * RFC 9000 section 16: reads the variable-length integer at the start of `bytes`. Bytes behind it aren't looked at.
  *
- * Report: the value; how many bytes it took (1, 2, 4 or 8).
- * Refusal: DW_NOT_WHOLE.
+ * Refusal: DW_REFUSED_NOT_WHOLE.
  */
-uint32_t dw_read_integer(const uint8_t *bytes, size_t len, uint64_t report[2]);
+enum dw_integer_report {
+    DW_INTEGER_VALUE, /* the value */
+    DW_INTEGER_TAKEN, /* how many bytes it took: 1, 2, 4 or 8 */
+    DW_INTEGER_REPORT
+};
+uint32_t dw_read_integer(const uint8_t *bytes, size_t len, uint64_t report[DW_INTEGER_REPORT]);
 
 /*
  * RFC 9000 section 17.1: the fewest bytes in which a packet number may be sent.
@@ -91,31 +129,41 @@ uint32_t dw_read_integer(const uint8_t *bytes, size_t len, uint64_t report[2]);
  * `acknowledged` then doesn't count; anything else says that `acknowledged` is the greatest number that it has
  * acknowledged.
  *
- * Report: the length, from 1 to 4.
- * Refusals, in this order: DW_RANGE, DW_GAP.
+ * Refusals, in this order: DW_REFUSED_RANGE, DW_REFUSED_GAP.
  */
-uint32_t dw_smallest_length(uint64_t number, uint32_t any_acknowledged, uint64_t acknowledged, uint64_t report[1]);
+enum dw_smallest_report {
+    DW_SMALLEST_LEN, /* the length, from 1 to 4 */
+    DW_SMALLEST_REPORT
+};
+uint32_t dw_smallest_length(uint64_t number, uint32_t any_acknowledged, uint64_t acknowledged,
+                            uint64_t report[DW_SMALLEST_REPORT]);
 
 /*
  * RFC 9000 section 17.1: a packet number as it is sent, in `length` bytes. The length may be more than the smallest.
  *
  * `number`, `any_acknowledged` and `acknowledged` are those of dw_smallest_length.
  *
- * Report: the short number.
- * Refusals, in this order: DW_RANGE, DW_GAP, DW_LENGTH.
+ * Refusals, in this order: DW_REFUSED_RANGE, DW_REFUSED_GAP, DW_REFUSED_LENGTH.
  */
+enum dw_shortened_report {
+    DW_SHORTENED_NUMBER, /* the short number */
+    DW_SHORTENED_REPORT
+};
 uint32_t dw_shorten(uint64_t number, uint32_t any_acknowledged, uint64_t acknowledged, size_t length,
-                    uint64_t report[1]);
+                    uint64_t report[DW_SHORTENED_REPORT]);
 
 /*
  * RFC 9000 appendix A.3: the full number that a short one of `length` bytes stands for.
  *
  * `expected` is one above the greatest number opened so far, or 0 before any. `truncated` is the short number.
  *
- * Report: the full number.
- * Refusals, in this order: DW_RANGE (expected), DW_LENGTH, DW_RANGE (recovered).
+ * Refusals, in this order: DW_REFUSED_RANGE (expected), DW_REFUSED_LENGTH, DW_REFUSED_RANGE (recovered).
  */
-uint32_t dw_recover(uint64_t expected, uint64_t truncated, size_t length, uint64_t report[1]);
+enum dw_recovered_report {
+    DW_RECOVERED_NUMBER, /* the full number */
+    DW_RECOVERED_REPORT
+};
+uint32_t dw_recover(uint64_t expected, uint64_t truncated, size_t length, uint64_t report[DW_RECOVERED_REPORT]);
 
 /*
  * RFC 9001 section 5.2: the keys with which one side protects its Initial packets.
@@ -126,10 +174,10 @@ uint32_t dw_recover(uint64_t expected, uint64_t truncated, size_t length, uint64
  *
  * There is no report. `keys` holds, with the answer 0, the version (4 bytes, most significant first), key (16), iv (12)
  * and hp (16).
- * Refusals, in this order: DW_VERSION, DW_LONG_ID.
+ * Refusals, in this order: DW_REFUSED_VERSION, DW_REFUSED_LONG_ID.
  */
 uint32_t dw_initial_keys(uint32_t version, const uint8_t *destination, size_t destination_len, uint32_t server,
-                         uint8_t keys[48]);
+                         uint8_t keys[DW_KEYS_SIZE]);
 
 /*
  * RFC 9001 section 5: seals an Initial packet, of the keys' version, at the start of `out`.
@@ -139,13 +187,18 @@ uint32_t dw_initial_keys(uint32_t version, const uint8_t *destination, size_t de
  * payload's length are 4 or more together. The same number must never be sealed twice with the same keys: the library
  * doesn't remember numbers.
  *
- * Report: the packet's length. The bytes of `out` behind the packet stay as they were.
- * Refusals, in this order: DW_VERSION (the keys'), DW_RANGE, DW_GAP, DW_LENGTH, DW_LONG_ID, DW_SHORT, DW_SIZE, DW_ROOM.
+ * The bytes of `out` behind the packet stay as they were.
+ * Refusals, in this order: DW_REFUSED_VERSION (the keys'), DW_REFUSED_RANGE, DW_REFUSED_GAP, DW_REFUSED_LENGTH,
+ * DW_REFUSED_LONG_ID, DW_REFUSED_SHORT, DW_REFUSED_SIZE, DW_REFUSED_ROOM.
  */
-uint32_t dw_seal(const uint8_t keys[48], uint64_t number, uint32_t any_acknowledged, uint64_t acknowledged,
+enum dw_sealed_report {
+    DW_SEALED_LEN, /* the packet's length */
+    DW_SEALED_REPORT
+};
+uint32_t dw_seal(const uint8_t keys[DW_KEYS_SIZE], uint64_t number, uint32_t any_acknowledged, uint64_t acknowledged,
                  size_t length, const uint8_t *destination, size_t destination_len, const uint8_t *source,
                  size_t source_len, const uint8_t *token, size_t token_len, const uint8_t *payload, size_t payload_len,
-                 uint8_t *out, size_t out_len, uint64_t report[1]);
+                 uint8_t *out, size_t out_len, uint64_t report[DW_SEALED_REPORT]);
 
 /*
  * RFC 9001 section 5: opens the Initial packet that begins a datagram.
@@ -155,27 +208,47 @@ uint32_t dw_seal(const uint8_t keys[48], uint64_t number, uint32_t any_acknowled
  * bytes as the packet has, less 16; with the answer 0 its start holds the header without its mask, number included, and
  * behind it the payload. The bytes behind those stay as they were. Nothing is written before the tag has been compared.
  *
- * Report: the full number; its length in the packet; the header's length, number included; the payload's length; how
- * many bytes of the datagram the packet took. Bytes behind the packet aren't looked at: another packet may stand there.
- * Refusals, in this order: DW_RANGE (expected), DW_VERSION (the keys'), then the header's (see dw_read_header; a known
- * version that isn't the keys' is DW_VERSION too), DW_ROOM, DW_RESERVED, DW_RANGE (recovered), DW_TAG.
+ * Bytes behind the packet aren't looked at: another packet may stand there.
+ * Refusals, in this order: DW_REFUSED_RANGE (expected), DW_REFUSED_VERSION (the keys'), then the header's (see
+ * dw_read_header; a known version that isn't the keys' is DW_REFUSED_VERSION too), DW_REFUSED_ROOM,
+ * DW_REFUSED_RESERVED, DW_REFUSED_RANGE (recovered), DW_REFUSED_TAG. What the last three ask of a caller is said under
+ * DROP, at the top.
  */
-uint32_t dw_open(const uint8_t keys[48], uint64_t *expected, const uint8_t *datagram, size_t datagram_len,
-                 uint8_t *out, size_t out_len, uint64_t report[5]);
+enum dw_opened_report {
+    DW_OPENED_NUMBER,      /* the full number */
+    DW_OPENED_NUMBER_LEN,  /* its length in the packet */
+    DW_OPENED_HEADER_LEN,  /* the header's length, number included */
+    DW_OPENED_PAYLOAD_LEN, /* the payload's, which stands behind the header */
+    DW_OPENED_USED,        /* how many bytes of the datagram the packet took */
+    DW_OPENED_REPORT
+};
+uint32_t dw_open(const uint8_t keys[DW_KEYS_SIZE], uint64_t *expected, const uint8_t *datagram, size_t datagram_len,
+                 uint8_t *out, size_t out_len, uint64_t report[DW_OPENED_REPORT]);
 
 /*
  * RFC 9000 section 17.2.2: where the fields of an Initial packet stand in a datagram. It needs no keys: this is how a
  * server learns the destination ID that the keys are made from. Nothing of it is authentic until the packet has been
  * opened.
  *
- * Report: the version; place and length of the destination ID, of the source ID and of the token; the value of Length;
- * the place of the packet number. A place counts bytes from the datagram's start, and an empty part's is where it would
- * start.
- * Refusals: DW_SIZE, DW_FORM, and then field by field in the packet's order. Each field is first whole (DW_NOT_WHOLE)
- * and then right: the version DW_VERSION, and after it the type DW_TYPE; an ID's length DW_LONG_ID, even where its
- * bytes aren't there; Length DW_SHORT before its end is looked for (DW_NOT_WHOLE).
+ * A place counts bytes from the datagram's start, and an empty part's is where it would start.
+ * Refusals: DW_REFUSED_SIZE, DW_REFUSED_FORM, and then field by field in the packet's order. Each field is first whole
+ * (DW_REFUSED_NOT_WHOLE) and then right: the version DW_REFUSED_VERSION, and after it the type DW_REFUSED_TYPE; an ID's
+ * length DW_REFUSED_LONG_ID, even where its bytes aren't there; Length DW_REFUSED_SHORT before its end is looked for
+ * (DW_REFUSED_NOT_WHOLE).
  */
-uint32_t dw_read_header(const uint8_t *datagram, size_t datagram_len, uint64_t report[9]);
+enum dw_header_report {
+    DW_HEADER_VERSION,
+    DW_HEADER_DESTINATION_AT,
+    DW_HEADER_DESTINATION_LEN,
+    DW_HEADER_SOURCE_AT,
+    DW_HEADER_SOURCE_LEN,
+    DW_HEADER_TOKEN_AT,
+    DW_HEADER_TOKEN_LEN,
+    DW_HEADER_LENGTH,    /* the value of Length: number, payload and tag */
+    DW_HEADER_NUMBER_AT, /* where the number starts, masked still */
+    DW_HEADER_REPORT
+};
+uint32_t dw_read_header(const uint8_t *datagram, size_t datagram_len, uint64_t report[DW_HEADER_REPORT]);
 
 /*
  * RFC 9000 section 17.2.5 and RFC 9001 section 5.8: writes a Retry packet at the start of `out`.
@@ -183,23 +256,38 @@ uint32_t dw_read_header(const uint8_t *datagram, size_t datagram_len, uint64_t r
  * `original` is the Destination Connection ID of the Initial that the Retry answers. `low_bits` modulo 16 becomes the
  * first byte's low four bits, which have no meaning.
  *
- * Report: the packet's length. The bytes of `out` behind the packet stay as they were.
- * Refusals, in this order: DW_VERSION, DW_LONG_ID (original, destination, source), DW_NO_TOKEN, DW_SIZE, DW_ROOM.
+ * The bytes of `out` behind the packet stay as they were.
+ * Refusals, in this order: DW_REFUSED_VERSION, DW_REFUSED_LONG_ID (original, destination, source), DW_REFUSED_NO_TOKEN,
+ * DW_REFUSED_SIZE, DW_REFUSED_ROOM.
  */
+enum dw_written_report {
+    DW_WRITTEN_LEN, /* the packet's length */
+    DW_WRITTEN_REPORT
+};
 uint32_t dw_write_retry(uint32_t version, const uint8_t *original, size_t original_len, const uint8_t *destination,
                         size_t destination_len, const uint8_t *source, size_t source_len, const uint8_t *token,
-                        size_t token_len, uint64_t low_bits, uint8_t *out, size_t out_len, uint64_t report[1]);
+                        size_t token_len, uint64_t low_bits, uint8_t *out, size_t out_len,
+                        uint64_t report[DW_WRITTEN_REPORT]);
 
 /*
  * RFC 9001 section 5.8: checks that a datagram is a Retry packet that answers the Initial sent to `original`. The
  * packet is the whole datagram.
  *
- * Report: the version; place and length of the destination ID, of the source ID and of the token.
- * Refusals: DW_LONG_ID (original), then as dw_read_header to the source ID; fewer than 16 bytes behind it are
- * DW_NOT_WHOLE, and exactly 16 are DW_NO_TOKEN; then DW_TAG.
+ * Refusals: DW_REFUSED_LONG_ID (original), then as dw_read_header to the source ID; fewer than 16 bytes behind it are
+ * DW_REFUSED_NOT_WHOLE, and exactly 16 are DW_REFUSED_NO_TOKEN; then DW_REFUSED_TAG.
  */
+enum dw_checked_report {
+    DW_CHECKED_VERSION,
+    DW_CHECKED_DESTINATION_AT,
+    DW_CHECKED_DESTINATION_LEN,
+    DW_CHECKED_SOURCE_AT,
+    DW_CHECKED_SOURCE_LEN,
+    DW_CHECKED_TOKEN_AT,
+    DW_CHECKED_TOKEN_LEN,
+    DW_CHECKED_REPORT
+};
 uint32_t dw_check_retry(const uint8_t *original, size_t original_len, const uint8_t *datagram, size_t datagram_len,
-                        uint64_t report[7]);
+                        uint64_t report[DW_CHECKED_REPORT]);
 
 #ifdef __cplusplus
 }

@@ -27,8 +27,8 @@ int main(int argc, char **argv)
         fprintf(stderr, "usage: exchange FILE, which must be writable\n");
         return 2;
     }
-    check_version(VERSION_1, "version 1", record);
-    check_version(VERSION_2_DRAFT, "version 2 draft", record);
+    check_version(DW_VERSION_1, "version 1", record);
+    check_version(DW_DRAFT_2, "version 2 draft", record);
     if (fclose(record) != 0) {
         perror(argv[1]);
         return 2;

@@ -9,7 +9,7 @@ struct relay {
     FILE *record;
     char written[32]; /* names in the record: as ngtcp2 wrote ... */
     char sealed[32];  /* ... and as the library sealed */
-    uint8_t keys[2][KEY_RECORD];
+    uint8_t keys[2][DW_KEYS_SIZE];
     uint64_t expected[2];
     unsigned seen;           /* Initials that came by */
     unsigned sealed_anew[2]; /* Initials handed on, by their senders */
@@ -48,7 +48,7 @@ static int set_keys(struct relay *relay, const struct knock *knock)
 static uint32_t seal_anew(const struct relay *relay, enum sender sender, const struct bytes *datagram,
                           const struct opened *opened, struct bytes *sealed)
 {
-    static const uint8_t padding[LARGEST_DATAGRAM];
+    static const uint8_t padding[DW_LIMIT];
     struct bytes payload = bytes_of(payload_of(opened), (size_t)opened->payload_length);
     struct initial header;
     uint32_t version;

@@ -22,7 +22,7 @@ static void check_first_initial(uint32_t version, size_t destination, size_t sou
     struct knock knock = knock_of(version, destination, source, token);
     struct initial header;
     struct opened opened;
-    uint8_t keys[KEY_RECORD], others[KEY_RECORD];
+    uint8_t keys[DW_KEYS_SIZE], others[DW_KEYS_SIZE];
     uint64_t expected = 0;
     uint32_t found, answer;
     char shape[80];
@@ -39,8 +39,8 @@ static void check_first_initial(uint32_t version, size_t destination, size_t sou
           "%s: the payload is a CRYPTO frame with a ClientHello for " PEER_SERVER_NAME, shape);
     expected = 0;
     answer = ready ? open_packet(others, &expected, &knock.datagram, &opened) : UINT32_MAX;
-    check((answer == 9 || answer == 11) && expected == 0, "%s: the server's keys do not open it (refusal %u)", shape,
-          (unsigned)answer);
+    check((answer == DW_REFUSED_RESERVED || answer == DW_REFUSED_TAG) && expected == 0,
+          "%s: the server's keys do not open it (refusal %u)", shape, (unsigned)answer);
     peer_end(&client);
 }
 
@@ -50,7 +50,7 @@ static void check_damaged_first_initial(uint32_t version)
     struct peer client;
     struct knock knock = knock_of(version, 8, 8, 4);
     struct opened opened;
-    uint8_t keys[KEY_RECORD];
+    uint8_t keys[DW_KEYS_SIZE];
     uint64_t expected = 0;
     size_t place, refused = 0;
     int ready = knock_first(&client, &knock) && keys_of(&knock, CLIENT, keys);
@@ -66,7 +66,7 @@ static void check_damaged_first_initial(uint32_t version)
 static int seal_answer(const struct knock *knock, uint64_t number, size_t number_length, const struct bytes *payload,
                        struct bytes *datagram)
 {
-    uint8_t keys[KEY_RECORD];
+    uint8_t keys[DW_KEYS_SIZE];
     struct initial header;
     header.destination = knock->source;
     header.source = pattern(0x51, 8);
@@ -141,7 +141,7 @@ static void check_close_opened(uint32_t version)
     ngtcp2_cid destination = id_of(&knock.source), source = id_of(&knock.destination);
     struct bytes frame = close_after(ack_of_0, 0), datagram;
     struct opened opened;
-    uint8_t keys[KEY_RECORD];
+    uint8_t keys[DW_KEYS_SIZE];
     uint64_t expected = 0;
     int ready;
     ngtcp2_ssize length =
@@ -161,7 +161,7 @@ static void check_fixed_bit(uint32_t version)
     struct knock knock = knock_of(version, 8, 8, 0);
     struct bytes datagram;
     struct opened opened;
-    uint8_t keys[KEY_RECORD];
+    uint8_t keys[DW_KEYS_SIZE];
     uint64_t expected = 0;
     int ready;
     peer_clears_fixed_bit = 1;
@@ -170,7 +170,7 @@ static void check_fixed_bit(uint32_t version)
     ready = ready && peer_read(&server, knock.datagram.at, knock.datagram.length) == 0;
     datagram.length = ready ? peer_write(&server, datagram.at, sizeof datagram.at) : 0;
     check(datagram.length > 0 && (datagram.at[0] & 0xc0) == 0x80 &&
-              open_packet(keys, &expected, &datagram, &opened) == 2,
+              open_packet(keys, &expected, &datagram, &opened) == DW_REFUSED_FORM,
           "an Initial of ngtcp2's server with its fixed bit cleared (RFC 9287) is refused with 2");
     peer_clears_fixed_bit = 0;
     peer_end(&client);

@@ -53,7 +53,7 @@ int answer_knock(struct peer *server, const struct knock *knock, const struct by
     return peer_server(server, knock->version, &own, &first) == 0;
 }
 
-int keys_of(const struct knock *knock, enum sender sender, uint8_t keys[KEY_RECORD])
+int keys_of(const struct knock *knock, enum sender sender, uint8_t keys[DW_KEYS_SIZE])
 {
     return dw_initial_keys(knock->version, knock->destination.at, knock->destination.length, sender, keys) == 0;
 }

@@ -34,6 +34,6 @@ int knock_again(struct peer *client, struct knock *knock, const struct initial *
 int answer_knock(struct peer *server, const struct knock *knock, const struct bytes *original);
 
 /* The library's keys for what this sender writes. */
-int keys_of(const struct knock *knock, enum sender sender, uint8_t keys[KEY_RECORD]);
+int keys_of(const struct knock *knock, enum sender sender, uint8_t keys[DW_KEYS_SIZE]);
 
 #endif

@@ -37,8 +37,8 @@ int same_bytes(const struct bytes *one, const struct bytes *other)
 
 void append(struct bytes *whole, const void *at, size_t length)
 {
-    if (length > LARGEST_DATAGRAM - whole->length) {
-        fprintf(stderr, "more than %d bytes\n", LARGEST_DATAGRAM);
+    if (length > DW_LIMIT - whole->length) {
+        fprintf(stderr, "more than %d bytes\n", DW_LIMIT);
         exit(2);
     }
     memcpy(whole->at + whole->length, at, length);
@@ -75,41 +75,61 @@ int payload_holds(const struct opened *opened, const char *text)
     return 0;
 }
 
-uint32_t open_packet(const uint8_t keys[KEY_RECORD], uint64_t *expected, const struct bytes *datagram,
+uint32_t open_packet(const uint8_t keys[DW_KEYS_SIZE], uint64_t *expected, const struct bytes *datagram,
                      struct opened *opened)
 {
-    uint64_t report[5] = {0};
+    uint64_t report[DW_OPENED_REPORT] = {0};
     uint32_t answer =
         dw_open(keys, expected, datagram->at, datagram->length, opened->plain, sizeof opened->plain, report);
-    opened->number = report[0];
-    opened->number_length = report[1];
-    opened->header_length = report[2];
-    opened->payload_length = report[3];
-    opened->used = report[4];
+    opened->number = report[DW_OPENED_NUMBER];
+    opened->number_length = report[DW_OPENED_NUMBER_LEN];
+    opened->header_length = report[DW_OPENED_HEADER_LEN];
+    opened->payload_length = report[DW_OPENED_PAYLOAD_LEN];
+    opened->used = report[DW_OPENED_USED];
     return answer;
 }
 
 /* Nothing counts as acknowledged: the numbers here are small, so that every length from 1 to 4 covers them. */
-uint32_t seal_packet(const uint8_t keys[KEY_RECORD], const struct initial *header, const struct bytes *payload,
+uint32_t seal_packet(const uint8_t keys[DW_KEYS_SIZE], const struct initial *header, const struct bytes *payload,
                      struct bytes *datagram)
 {
-    uint64_t length = 0;
+    uint64_t report[DW_SEALED_REPORT] = {0};
     uint32_t answer = dw_seal(keys, header->number, 0, 0, header->number_length, header->destination.at,
                               header->destination.length, header->source.at, header->source.length, header->token.at,
                               header->token.length, payload->at, payload->length, datagram->at, sizeof datagram->at,
-                              &length);
-    datagram->length = (size_t)length;
+                              report);
+    datagram->length = (size_t)report[DW_SEALED_LEN];
     return answer;
+}
+
+/* A part of a datagram, where a report names its place and behind that its length. */
+static struct bytes part(const struct bytes *datagram, const uint64_t *place)
+{
+    return bytes_of(datagram->at + place[0], (size_t)place[1]);
 }
 
 uint32_t read_initial(const struct bytes *datagram, uint32_t *version, struct initial *header)
 {
-    uint64_t report[9] = {0};
+    uint64_t report[DW_HEADER_REPORT] = {0};
     uint32_t answer = dw_read_header(datagram->at, datagram->length, report);
-    *version = (uint32_t)report[0];
-    header->destination = bytes_of(datagram->at + report[1], (size_t)report[2]);
-    header->source = bytes_of(datagram->at + report[3], (size_t)report[4]);
-    header->token = bytes_of(datagram->at + report[5], (size_t)report[6]);
+    *version = (uint32_t)report[DW_HEADER_VERSION];
+    header->destination = part(datagram, report + DW_HEADER_DESTINATION_AT);
+    header->source = part(datagram, report + DW_HEADER_SOURCE_AT);
+    header->token = part(datagram, report + DW_HEADER_TOKEN_AT);
+    header->number = 0;
+    header->number_length = 0;
+    return answer;
+}
+
+uint32_t check_retry(const struct bytes *original, const struct bytes *datagram, uint32_t *version,
+                     struct initial *header)
+{
+    uint64_t report[DW_CHECKED_REPORT] = {0};
+    uint32_t answer = dw_check_retry(original->at, original->length, datagram->at, datagram->length, report);
+    *version = (uint32_t)report[DW_CHECKED_VERSION];
+    header->destination = part(datagram, report + DW_CHECKED_DESTINATION_AT);
+    header->source = part(datagram, report + DW_CHECKED_SOURCE_AT);
+    header->token = part(datagram, report + DW_CHECKED_TOKEN_AT);
     header->number = 0;
     header->number_length = 0;
     return answer;
@@ -118,11 +138,11 @@ uint32_t read_initial(const struct bytes *datagram, uint32_t *version, struct in
 uint32_t make_retry(uint32_t version, const struct bytes *original, const struct initial *header, uint64_t low_bits,
                     struct bytes *datagram)
 {
-    uint64_t length = 0;
+    uint64_t report[DW_WRITTEN_REPORT] = {0};
     uint32_t answer = dw_write_retry(version, original->at, original->length, header->destination.at,
                                      header->destination.length, header->source.at, header->source.length,
                                      header->token.at, header->token.length, low_bits, datagram->at,
-                                     sizeof datagram->at, &length);
-    datagram->length = (size_t)length;
+                                     sizeof datagram->at, report);
+    datagram->length = (size_t)report[DW_WRITTEN_LEN];
     return answer;
 }

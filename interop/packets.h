@@ -9,16 +9,11 @@
 #include <stddef.h>
 #include <stdint.h>
 
-#define VERSION_1 UINT32_C(0x00000001)
-#define VERSION_2_DRAFT UINT32_C(0x709a50c4)
-#define LARGEST_DATAGRAM 1500
-#define KEY_RECORD 48
-
 /* Senders, as dw_initial_keys takes them. */
 enum sender { CLIENT = 0, SERVER = 1 };
 
 struct bytes {
-    uint8_t at[LARGEST_DATAGRAM];
+    uint8_t at[DW_LIMIT];
     size_t length;
 };
 
@@ -38,10 +33,10 @@ struct opened {
     uint64_t header_length;
     uint64_t payload_length;
     uint64_t used;
-    uint8_t plain[LARGEST_DATAGRAM];
+    uint8_t plain[DW_LIMIT];
 };
 
-/* A copy of `length` bytes, at most LARGEST_DATAGRAM. */
+/* A copy of `length` bytes, at most DW_LIMIT. */
 struct bytes bytes_of(const void *at, size_t length);
 
 /* `length` bytes that count on from `first`: IDs and tokens that can be told apart. */
@@ -50,7 +45,7 @@ struct bytes pattern(uint8_t first, size_t length);
 int same(const void *one, size_t one_length, const void *other, size_t other_length);
 int same_bytes(const struct bytes *one, const struct bytes *other);
 
-/* Appends; what does not fit in LARGEST_DATAGRAM ends the program. */
+/* Appends; what does not fit in DW_LIMIT ends the program. */
 void append(struct bytes *whole, const void *at, size_t length);
 
 /* A copy of the datagram with one bit of byte `place` turned over: another bit from byte to byte. */
@@ -66,12 +61,14 @@ int starts_with_client_hello(const struct opened *opened);
 int payload_holds(const struct opened *opened, const char *text);
 
 /* The library's answers: 0 or the refusal. `opened` is meaningful where the answer is 0. */
-uint32_t open_packet(const uint8_t keys[KEY_RECORD], uint64_t *expected, const struct bytes *datagram,
+uint32_t open_packet(const uint8_t keys[DW_KEYS_SIZE], uint64_t *expected, const struct bytes *datagram,
                      struct opened *opened);
-uint32_t seal_packet(const uint8_t keys[KEY_RECORD], const struct initial *header, const struct bytes *payload,
+uint32_t seal_packet(const uint8_t keys[DW_KEYS_SIZE], const struct initial *header, const struct bytes *payload,
                      struct bytes *datagram);
-/* The number stays covered by header protection: it is set to 0, and its length too. */
+/* The number stays covered by header protection, and a Retry has none: it is set to 0, and its length too. */
 uint32_t read_initial(const struct bytes *datagram, uint32_t *version, struct initial *header);
+uint32_t check_retry(const struct bytes *original, const struct bytes *datagram, uint32_t *version,
+                     struct initial *header);
 uint32_t make_retry(uint32_t version, const struct bytes *original, const struct initial *header, uint64_t low_bits,
                     struct bytes *datagram);
 

@@ -12,7 +12,7 @@ static void check_retry_obeyed(uint32_t version)
     struct initial header, found;
     struct bytes retry;
     struct opened opened;
-    uint8_t keys[KEY_RECORD];
+    uint8_t keys[DW_KEYS_SIZE];
     uint64_t expected = 0;
     size_t place, dropped = 0;
     uint32_t found_version;
@@ -54,23 +54,22 @@ static struct bytes written_by_ngtcp2(uint32_t version, const struct bytes *orig
 static void check_retry_checked(uint32_t version)
 {
     struct bytes original = pattern(0x83, 8), own, retry;
-    struct initial header;
-    uint64_t report[7];
+    struct initial header, found;
     size_t place, refused = 0;
+    uint32_t found_version;
     header.destination = pattern(0xc1, 5);
     header.source = pattern(0xe0, 18);
     header.token = pattern(0x31, 64);
     retry = written_by_ngtcp2(version, &original, &header);
-    check(dw_check_retry(original.at, original.length, retry.at, retry.length, report) == 0 && report[0] == version &&
-              same(retry.at + report[1], (size_t)report[2], header.destination.at, header.destination.length) &&
-              same(retry.at + report[3], (size_t)report[4], header.source.at, header.source.length) &&
-              same(retry.at + report[5], (size_t)report[6], header.token.at, header.token.length),
+    check(check_retry(&original, &retry, &found_version, &found) == DW_OK && found_version == version &&
+              same_bytes(&found.destination, &header.destination) && same_bytes(&found.source, &header.source) &&
+              same_bytes(&found.token, &header.token),
           "the library accepts ngtcp2's Retry, with its IDs and token");
     check(make_retry(version, &original, &header, retry.at[0] & 0x0f, &own) == 0 && same_bytes(&own, &retry),
           "the library writes the same %zu bytes of Retry as ngtcp2", retry.length);
     for (place = 0; place < retry.length; place++) {
         struct bytes copy = damaged(&retry, place);
-        refused += dw_check_retry(original.at, original.length, copy.at, copy.length, report) != 0;
+        refused += check_retry(&original, &copy, &found_version, &found) != DW_OK;
     }
     check(refused > 0 && refused == retry.length, "%zu damaged copies of ngtcp2's Retry are refused", refused);
 }

@@ -103,6 +103,21 @@ class Initial:
         parts = hexed(self.destination, self.source, self.token, self.payload())
         return f"initial {keys} {self.number} {acknowledged} {self.length} {parts}"
 
+    def sealing(self):
+        """The request by which quicgo.go seals it."""
+        keys = f"{self.version} {hexed(self.keys_id)} {self.sender}"
+        parts = hexed(self.destination, self.source, self.token, self.payload())
+        return f"seal {keys} {self.number} {self.length} {parts}"
+
+    def opening(self, packet):
+        """The request by which library.c and quicgo.go open a packet as this one."""
+        return f"open {self.version} {hexed(self.keys_id)} {self.sender} {hexed(packet)}"
+
+    def opened(self):
+        """What both answer where it opens."""
+        parts = hexed(self.destination, self.source, self.token)
+        return f"opened {parts} {self.number} {self.length} {hexed(self.payload())}"
+
     def fields(self):
         """tshark's fields of the header, the number and the frames."""
         fields = {
@@ -237,12 +252,21 @@ def conversation(version, length, token, hellos):
     ]
 
 
+def answers(program, requests):
+    """A line for each request, from library.c or quicgo.go."""
+    lines = "".join(f"{request}\n" for request in requests)
+    run = subprocess.run([program], input=lines, stdout=subprocess.PIPE, text=True, check=False)
+    found = run.stdout.splitlines()
+    if run.returncode != 0 or len(found) != len(requests):
+        counts = f"{len(found)} answers to {len(requests)} requests"
+        raise capture.Broken(f"{program.name} ended with {run.returncode} and {counts}")
+    return found
+
+
 def packets(program, wanted):
     """The library's packets for Initials and Retry packets."""
-    lines = "".join(f"{one.request()}\n" for one in wanted)
-    run = subprocess.run([program], input=lines, stdout=subprocess.PIPE, text=True, check=False)
-    answers = run.stdout.splitlines()
-    refused = [answer for answer in answers if answer.startswith("refused")]
-    if run.returncode != 0 or len(answers) != len(wanted) or refused:
-        raise capture.Broken(f"the library does not seal what it is asked for: {run.returncode}, {refused}")
-    return [bytes.fromhex(answer) for answer in answers]
+    found = answers(program, [one.request() for one in wanted])
+    refused = [answer for answer in found if answer.startswith("refused")]
+    if refused:
+        raise capture.Broken(f"the library does not seal what it is asked for: {refused}")
+    return [bytes.fromhex(answer) for answer in found]

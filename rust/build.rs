@@ -1,4 +1,6 @@
-//! Builds and links the static library: `make lib` in the repository's root proves it and writes it.
+//! Builds and links the static library: `make lib` in the repository's root proves it and writes it, and does nothing
+//! where the archive that stands is current. What it says is this script's output: cargo shows that with -vv while it
+//! comes, and by itself where the script fails.
 //!
 //! DRIFTWICKET_LIB_DIR names the directory of an archive that stands already (a relative one is taken from this
 //! package); then nothing is built. The archive is copied to cargo's own folder, so that it is linked from there
@@ -14,7 +16,7 @@ const ARCHIVE: &str = "libdriftwicket.a";
 const DIRECTORY: &str = "DRIFTWICKET_LIB_DIR";
 
 /// What `make lib` makes the archive from, in the repository's root.
-const SOURCES: [&str; 4] = ["Makefile", "crates", "crates.txt", "tools/library"];
+const SOURCES: [&str; 5] = ["Makefile", "crates", "crates.txt", "kit.txt", "tools/library"];
 
 fn main() -> ExitCode {
     match link() {
@@ -74,15 +76,15 @@ fn made(root: &Path) -> Result<PathBuf, Box<dyn Error>> {
     }
     // cargo's own search path for shared libraries isn't for the kit's programs
     let arguments = ["--no-print-directory", "lib", "-C"];
-    let run = Command::new("make").args(arguments).arg(root).env_remove("LD_LIBRARY_PATH").output()?;
-    if !run.status.success() {
-        let [said, errors] = [run.stdout, run.stderr].map(|bytes| String::from_utf8_lossy(&bytes).into_owned());
-        return Err(format!("`make lib` failed in {}:\n{said}{errors}", root.display()).into());
+    let status = Command::new("make").args(arguments).arg(root).env_remove("LD_LIBRARY_PATH").status()?;
+    if !status.success() {
+        return Err(format!("`make lib` failed in {}", root.display()).into());
     }
-    Ok(root.join("target/staticlib").join(ARCHIVE))
+    Ok(root.join("build").join(ARCHIVE))
 }
 
 /// Whether a program can be called by its name.
 fn on_path(program: &str) -> bool {
-    env::var_os("PATH").is_some_and(|path| env::split_paths(&path).any(|folder| folder.join(program).is_file()))
+    let path = env::var_os("PATH").unwrap_or_default();
+    env::split_paths(&path).any(|folder| folder.join(program).is_file())
 }

@@ -1,6 +1,6 @@
 //! Says where libdriftwicket.a is, which the comparing program links (src/library.rs).
 //!
-//! The directory is DRIFTWICKET_LIB_DIR, or ../target/staticlib, where `make lib` puts it; a relative one is taken from
+//! The directory is DRIFTWICKET_LIB_DIR, or ../build, where `make lib` puts it; a relative one is taken from
 //! this package. Only the program is linked: the library target and its tests build where the archive is missing.
 
 use std::env;
@@ -12,7 +12,7 @@ fn main() {
     println!("cargo:rerun-if-env-changed=DRIFTWICKET_LIB_DIR");
     println!("cargo:rustc-check-cfg=cfg(driftwicket_missing)");
     let package = env::var("CARGO_MANIFEST_DIR").expect("cargo names the package's directory");
-    let directory = env::var("DRIFTWICKET_LIB_DIR").unwrap_or_else(|_| "../target/staticlib".to_string());
+    let directory = env::var("DRIFTWICKET_LIB_DIR").unwrap_or_else(|_| "../build".to_string());
     let directory = Path::new(&package).join(directory);
     let archive = directory.join(ARCHIVE);
     println!("cargo:rerun-if-changed={}", archive.display());

@@ -1,13 +1,15 @@
-//! The C interface of `libdriftwicket.a` (include/driftwicket.h), with a safe function over each entry point: the only
-//! unsafe code of this crate.
+//! The C interface of `libdriftwicket.a` (include/driftwicket.h), with a safe function over each entry point, and the
+//! wiping of a key record: the only unsafe code of this crate.
 //!
 //! Every function there answers 0 or a refusal's number, takes each slice as a pointer and a length, and trusts its
 //! caller in nothing but that these hold.
 
-use crate::retry::Retry;
-use crate::{Initial, Keys, Refusal, Version};
+use crate::refusal::Refusal;
+use core::ptr;
+use core::sync::atomic::{compiler_fence, Ordering};
 
-type Record = [u8; Keys::LENGTH];
+/// A key record's bytes.
+pub type Record = [u8; 48];
 
 extern "C" {
     fn dw_read_integer(bytes: *const u8, len: usize, report: &mut [u64; 2]) -> u32;
@@ -86,22 +88,6 @@ fn flagged(acknowledged: Option<u64>) -> (u32, u64) {
     (u32::from(acknowledged.is_some()), acknowledged.unwrap_or(0))
 }
 
-/// A place or a length that was reported. None is above 1,500.
-pub fn count(word: u64) -> usize {
-    usize::try_from(word).expect("places and lengths are at most 1,500")
-}
-
-/// A version that was reported.
-pub fn version(word: u64) -> Version {
-    Version(u32::try_from(word).expect("a version has 32 bits"))
-}
-
-/// Destination, source and token, by their places and lengths.
-pub fn parts(datagram: &[u8], words: [u64; 6]) -> [&[u8]; 3] {
-    let [destination, destination_len, source, source_len, token, token_len] = words.map(count);
-    [(destination, destination_len), (source, source_len), (token, token_len)].map(|(at, len)| &datagram[at..at + len])
-}
-
 pub fn read_integer(bytes: &[u8]) -> Result<[u64; 2], Refusal> {
     let mut report = [0; 2];
     // SAFETY: `bytes` is a slice, given with its own length; the report has the two words that are written.
@@ -132,27 +118,33 @@ pub fn recover(expected: u64, truncated: u64, length: usize) -> Result<u64, Refu
     answer(number, report[0])
 }
 
-pub fn initial_keys(version: u32, destination: &[u8], server: bool) -> Result<Record, Refusal> {
-    let mut keys = [0; Keys::LENGTH];
+pub fn initial_keys(version: u32, destination: &[u8], server: bool, keys: &mut Record) -> Result<(), Refusal> {
     // SAFETY: `destination` is a slice, given with its own length; the record has the 48 bytes that are written.
-    let number =
-        unsafe { dw_initial_keys(version, destination.as_ptr(), destination.len(), u32::from(server), &mut keys) };
-    answer(number, keys)
+    let number = unsafe { dw_initial_keys(version, destination.as_ptr(), destination.len(), u32::from(server), keys) };
+    answer(number, ())
 }
 
-pub fn seal(keys: &Record, packet: &Initial, out: &mut [u8]) -> Result<u64, Refusal> {
-    let Initial { number, acknowledged, number_length, destination, source, token, payload } = *packet;
-    let (any_acknowledged, acknowledged) = flagged(acknowledged.map(|pn| pn.0));
+/// Destination, source, token and payload are the packet's parts.
+pub fn seal(
+    keys: &Record,
+    number: u64,
+    acknowledged: Option<u64>,
+    length: usize,
+    parts: [&[u8]; 4],
+    out: &mut [u8],
+) -> Result<u64, Refusal> {
+    let (any_acknowledged, acknowledged) = flagged(acknowledged);
+    let [destination, source, token, payload] = parts;
     let mut report = [0; 1];
     // SAFETY: every pointer is a slice's, given with that slice's own length, and nothing but `out` and the report's one
     // word is written; both are borrowed for writing here alone.
     let number = unsafe {
         dw_seal(
             keys,
-            number.0,
+            number,
             any_acknowledged,
             acknowledged,
-            number_length,
+            length,
             destination.as_ptr(),
             destination.len(),
             source.as_ptr(),
@@ -185,14 +177,15 @@ pub fn read_header(datagram: &[u8]) -> Result<[u64; 9], Refusal> {
     answer(number, report)
 }
 
-pub fn write_retry(packet: &Retry, out: &mut [u8]) -> Result<u64, Refusal> {
-    let Retry { version, original, destination, source, token, low_bits } = *packet;
+/// The ID of the Initial that is answered, destination, source and token are the packet's parts.
+pub fn write_retry(version: u32, parts: [&[u8]; 4], low_bits: u64, out: &mut [u8]) -> Result<u64, Refusal> {
+    let [original, destination, source, token] = parts;
     let mut report = [0; 1];
     // SAFETY: every pointer is a slice's, given with that slice's own length, and nothing but `out` and the report's one
     // word is written; both are borrowed for writing here alone.
     let number = unsafe {
         dw_write_retry(
-            version.0,
+            version,
             original.as_ptr(),
             original.len(),
             destination.as_ptr(),
@@ -216,4 +209,13 @@ pub fn check_retry(original: &[u8], datagram: &[u8]) -> Result<[u64; 7], Refusal
     let number =
         unsafe { dw_check_retry(original.as_ptr(), original.len(), datagram.as_ptr(), datagram.len(), &mut report) };
     answer(number, report)
+}
+
+/// Overwrites a record with zeros, which the compiler may not leave out.
+pub fn wipe(record: &mut Record) {
+    for byte in record {
+        // SAFETY: the pointer is a byte's own, borrowed for writing here alone.
+        unsafe { ptr::write_volatile(byte, 0) };
+    }
+    compiler_fence(Ordering::SeqCst);
 }

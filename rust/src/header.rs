@@ -1,6 +1,9 @@
 //! The header of an Initial packet, as it stands in a datagram: RFC 9000 section 17.2.2.
 
-use crate::{ffi, Refusal, Version};
+use crate::ffi;
+use crate::refusal::Refusal;
+use crate::report;
+use crate::version::Version;
 
 /// What can be read of an Initial packet without keys. Both IDs and the token are parts of the caller's datagram.
 #[derive(Clone, Copy, Debug, PartialEq, Eq)]
@@ -19,11 +22,14 @@ pub struct Header<'d> {
     pub number_at: usize,
 }
 
-/// Reads the header of the Initial packet at a datagram's start. What stands behind the packet isn't looked at.
+/// Reads the header of the Initial packet at a datagram's start. What stands behind the packet isn't looked at. Nothing
+/// of it is authentic until the packet has been opened.
 ///
+/// # Errors
 /// Refuses 1 and 2; then, field by field as they stand, 3 for one that isn't whole before 4, 6, 5 or 7 for one that is
 /// wrong; an ID length over 20 is 5 even where its bytes are absent, and a Length below 20 is 7 before its end is tested.
 ///
+/// # Example
 /// ```
 /// use driftwicket::{read_header, Refusal, Version};
 ///
@@ -44,7 +50,7 @@ pub struct Header<'d> {
 /// ```
 pub fn read_header(datagram: &[u8]) -> Result<Header<'_>, Refusal> {
     let [version, parts @ .., length, number_at] = ffi::read_header(datagram)?;
-    let [destination, source, token] = ffi::parts(datagram, parts);
-    let [length, number_at] = [length, number_at].map(ffi::count);
-    Ok(Header { version: ffi::version(version), destination, source, token, length, number_at })
+    let [destination, source, token] = report::parts(datagram, parts);
+    let [length, number_at] = [length, number_at].map(report::count);
+    Ok(Header { version: report::version(version), destination, source, token, length, number_at })
 }

@@ -1,7 +1,9 @@
 //! Key records: RFC 9001 section 5.2.
 
-use crate::{ffi, Refusal, Version};
-use std::fmt::{self, Debug, Formatter};
+use crate::ffi::{self, Record};
+use crate::refusal::Refusal;
+use crate::version::Version;
+use core::fmt::{self, Debug, Formatter};
 
 /// The end of the connection that seals with some keys.
 #[derive(Clone, Copy, Debug, PartialEq, Eq, Hash)]
@@ -14,7 +16,9 @@ pub enum Side {
 
 /// One sender's keys, with the version that they are for. What one side seals, the other opens with the same record.
 ///
-/// They hold secrets: `Debug` tells the version alone.
+/// They hold secrets: `Debug` tells the version alone, and the record is wiped when it is dropped. What isn't wiped: what
+/// a move of the record leaves where it was, what is copied from [`Keys::as_bytes`], and what the library leaves on the
+/// stack below its calls. The keys of Initial packets are no secret to anybody who has seen the client's first.
 ///
 /// ```
 /// use driftwicket::{Keys, Side, Version};
@@ -24,15 +28,19 @@ pub enum Side {
 /// # Ok::<(), driftwicket::Refusal>(())
 /// ```
 #[derive(Clone)]
-pub struct Keys([u8; Keys::LENGTH]);
+pub struct Keys(Record);
 
 impl Keys {
     /// How many bytes a record has.
     pub const LENGTH: usize = 48;
 
     /// Makes a sender's Initial keys from the Destination Connection ID of the client's Initial: its first, or after a
-    /// Retry the one that the Retry set. Refuses 4 and 5, in this order.
+    /// Retry the one that the Retry set.
     ///
+    /// # Errors
+    /// Refuses 4 and 5, in this order.
+    ///
+    /// # Example
     /// ```
     /// use driftwicket::{Keys, Refusal, Side, Version};
     ///
@@ -47,7 +55,9 @@ impl Keys {
     /// # Ok::<(), Refusal>(())
     /// ```
     pub fn initial(version: Version, destination: &[u8], side: Side) -> Result<Keys, Refusal> {
-        ffi::initial_keys(version.0, destination, side == Side::Server).map(Keys)
+        let mut keys = Keys([0; Keys::LENGTH]);
+        ffi::initial_keys(version.0, destination, side == Side::Server, &mut keys.0)?;
+        Ok(keys)
     }
 
     /// Takes a record from its bytes: the version (4, the most significant byte first), key (16), iv (12) and hp (16).
@@ -59,6 +69,7 @@ impl Keys {
     /// let blank = Keys::from_bytes([0; Keys::LENGTH]);
     /// assert_eq!(open(&blank, &mut 0, &[], &mut []).unwrap_err(), Refusal::Version);
     /// ```
+    #[must_use]
     pub fn from_bytes(bytes: [u8; Keys::LENGTH]) -> Keys {
         Keys(bytes)
     }
@@ -73,6 +84,7 @@ impl Keys {
     /// assert_eq!(Keys::from_bytes(kept).as_bytes(), keys.as_bytes());
     /// # Ok::<(), driftwicket::Refusal>(())
     /// ```
+    #[must_use]
     pub fn as_bytes(&self) -> &[u8; Keys::LENGTH] {
         &self.0
     }
@@ -86,6 +98,7 @@ impl Keys {
     /// assert_eq!(keys.version(), Version::DRAFT_2);
     /// # Ok::<(), driftwicket::Refusal>(())
     /// ```
+    #[must_use]
     pub fn version(&self) -> Version {
         let [first, second, third, fourth, ..] = self.0;
         Version(u32::from_be_bytes([first, second, third, fourth]))
@@ -95,5 +108,11 @@ impl Keys {
 impl Debug for Keys {
     fn fmt(&self, formatter: &mut Formatter) -> fmt::Result {
         formatter.debug_struct("Keys").field("version", &self.version()).finish_non_exhaustive()
+    }
+}
+
+impl Drop for Keys {
+    fn drop(&mut self) {
+        ffi::wipe(&mut self.0);
     }
 }

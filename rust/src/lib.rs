@@ -47,9 +47,17 @@
 //! The TLS handshake, the frames inside a payload, timers, and the rule that a client's Initial fills 1,200 bytes. The
 //! session judges a Retry whose source ID is the original one, and a server's Initial that carries a token. Secrecy
 //! against timing is not promised.
+//!
+//! # Where it builds
+//! It allocates nothing and needs no standard library. The feature `std`, which is on by itself, makes a [`Refusal`] an
+//! `Error` of the standard library and does nothing else.
 
+#![no_std]
 #![deny(missing_docs)]
 #![deny(unsafe_code)]
+
+#[cfg(feature = "std")]
+extern crate std;
 
 #[allow(unsafe_code)]
 mod ffi;
@@ -58,6 +66,7 @@ mod keys;
 mod numbers;
 mod open;
 mod refusal;
+mod report;
 pub mod retry;
 mod seal;
 mod version;

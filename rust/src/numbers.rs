@@ -1,6 +1,8 @@
 //! Variable-length integers, and packet numbers short and full: RFC 9000 sections 16 and 17.1, appendix A.
 
-use crate::{ffi, Refusal};
+use crate::ffi;
+use crate::refusal::Refusal;
+use crate::report::count;
 
 /// A full packet number, from 0 to 2^62 − 1.
 ///
@@ -29,8 +31,12 @@ pub struct Integer {
     pub taken: usize,
 }
 
-/// Reads the integer at the start of some bytes (RFC 9000 section 16). What stands behind it isn't looked at. Refuses 3.
+/// Reads the integer at the start of some bytes (RFC 9000 section 16). What stands behind it isn't looked at.
 ///
+/// # Errors
+/// Refuses 3.
+///
+/// # Example
 /// ```
 /// use driftwicket::{read_integer, Integer, Refusal};
 ///
@@ -42,12 +48,16 @@ pub struct Integer {
 /// ```
 pub fn read_integer(bytes: &[u8]) -> Result<Integer, Refusal> {
     let [value, taken] = ffi::read_integer(bytes)?;
-    Ok(Integer { value, taken: ffi::count(taken) })
+    Ok(Integer { value, taken: count(taken) })
 }
 
 /// The smallest length, in bytes, in which a number can be sent while the receiver can still recover it (RFC 9000
-/// section 17.1). Refuses 10 and 14, in this order.
+/// section 17.1).
 ///
+/// # Errors
+/// Refuses 10 and 14, in this order.
+///
+/// # Example
 /// ```
 /// use driftwicket::{smallest_length, FullPn, Refusal};
 ///
@@ -60,12 +70,16 @@ pub fn read_integer(bytes: &[u8]) -> Result<Integer, Refusal> {
 /// assert_eq!(smallest_length(FullPn(1 << 31), None), Err(Refusal::Gap));
 /// ```
 pub fn smallest_length(number: FullPn, acknowledged: Option<FullPn>) -> Result<usize, Refusal> {
-    ffi::smallest_length(number.0, acknowledged.map(|pn| pn.0)).map(ffi::count)
+    ffi::smallest_length(number.0, acknowledged.map(|pn| pn.0)).map(count)
 }
 
 /// The last bytes of a number, in a length that covers its distance from the greatest one acknowledged (RFC 9000
-/// section 17.1). Refuses 10, 14 and 12, in this order.
+/// section 17.1).
 ///
+/// # Errors
+/// Refuses 10, 14 and 12, in this order.
+///
+/// # Example
 /// ```
 /// use driftwicket::{shorten, FullPn, Refusal, TruncatedPn};
 ///
@@ -79,8 +93,12 @@ pub fn shorten(number: FullPn, acknowledged: Option<FullPn>, length: usize) -> R
 }
 
 /// The full number that a short one of so many bytes stands for, where `expected` is one above the greatest number
-/// opened, or 0 before any (RFC 9000 appendix A.3). Refuses 10 (expected), 12 and 10 (recovered), in this order.
+/// opened, or 0 before any (RFC 9000 appendix A.3).
 ///
+/// # Errors
+/// Refuses 10 (expected), 12 and 10 (recovered), in this order.
+///
+/// # Example
 /// ```
 /// use driftwicket::{recover, FullPn, Refusal, TruncatedPn};
 ///

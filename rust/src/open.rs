@@ -1,6 +1,10 @@
 //! Opening, and a receiver: RFC 9001 sections 5.3 and 5.4, RFC 9000 appendix A.3.
 
-use crate::{ffi, FullPn, Keys, Refusal};
+use crate::ffi;
+use crate::keys::Keys;
+use crate::numbers::FullPn;
+use crate::refusal::Refusal;
+use crate::report::count;
 
 /// An opened packet. Its bytes stand in the buffer that was lent: the plain header, then the payload.
 #[derive(Clone, Copy, Debug, PartialEq, Eq)]
@@ -19,11 +23,14 @@ pub struct Opened<'o> {
 
 /// Opens the Initial packet at a datagram's start into `out`, which must have room for the packet less its tag, and
 /// raises `expected` to one above the number opened where it is below that. What stands behind the packet isn't looked at.
+/// A repeated packet opens again.
 ///
+/// # Errors
 /// Refuses 10 (expected) and 4 (the keys' version); then what [`read_header`] refuses, and at the version field 4 for
 /// another version than the keys'; then 8, 9, 10 (recovered) and 11, in this order. A refusal leaves `out` and
-/// `expected` as they were. A repeated packet opens again.
+/// `expected` as they were. A packet refused with 9, 10 or 11 is to be dropped, and nothing closed: see [`Refusal`].
 ///
+/// # Example
 /// ```
 /// use driftwicket::{open, seal, FullPn, Initial, Keys, Refusal, Side, Version, LIMIT};
 ///
@@ -45,7 +52,7 @@ pub struct Opened<'o> {
 /// let opened = open(&keys, &mut expected, datagram, &mut out)?;
 /// assert_eq!(opened.number, FullPn(3));
 /// assert_eq!(opened.number_length, 2);
-/// assert_eq!(opened.header.last_chunk(), Some(&[0, 3]));
+/// assert!(opened.header.ends_with(&[0, 3]));
 /// assert_eq!(opened.payload, b"ping");
 /// assert_eq!(opened.used, datagram.len());
 /// assert_eq!(expected, 4);
@@ -59,7 +66,7 @@ pub struct Opened<'o> {
 /// [`read_header`]: crate::read_header
 pub fn open<'o>(keys: &Keys, expected: &mut u64, datagram: &[u8], out: &'o mut [u8]) -> Result<Opened<'o>, Refusal> {
     let [number, lengths @ ..] = ffi::open(keys.as_bytes(), expected, datagram, out)?;
-    let [number_length, header_length, payload_length, used] = lengths.map(ffi::count);
+    let [number_length, header_length, payload_length, used] = lengths.map(count);
     let (header, behind) = out.split_at(header_length);
     Ok(Opened { number: FullPn(number), number_length, header, payload: &behind[..payload_length], used })
 }
@@ -106,6 +113,7 @@ impl Receiver {
     /// assert_eq!(receiver.expected(), 0);
     /// # Ok::<(), driftwicket::Refusal>(())
     /// ```
+    #[must_use]
     pub fn new(keys: Keys) -> Receiver {
         Receiver::expecting(keys, 0)
     }
@@ -123,6 +131,7 @@ impl Receiver {
     /// assert_eq!(beyond.open(b"anything", &mut []), Err(Refusal::Range));
     /// # Ok::<(), Refusal>(())
     /// ```
+    #[must_use]
     pub fn expecting(keys: Keys, expected: u64) -> Receiver {
         Receiver { keys, expected }
     }
@@ -136,6 +145,7 @@ impl Receiver {
     /// assert_eq!(receiver.keys().version(), Version::ONE);
     /// # Ok::<(), driftwicket::Refusal>(())
     /// ```
+    #[must_use]
     pub fn keys(&self) -> &Keys {
         &self.keys
     }
@@ -149,12 +159,17 @@ impl Receiver {
     /// assert_eq!(Receiver::expecting(keys, 12).expected(), 12);
     /// # Ok::<(), driftwicket::Refusal>(())
     /// ```
+    #[must_use]
     pub fn expected(&self) -> u64 {
         self.expected
     }
 
     /// Opens the Initial packet at a datagram's start, as [`open`] does.
     ///
+    /// # Errors
+    /// Those of [`open`].
+    ///
+    /// # Example
     /// ```
     /// use driftwicket::{Keys, Receiver, Refusal, Side, Version, LIMIT};
     ///

@@ -1,9 +1,13 @@
 //! The refusals, with their numbers and their words.
 
-use std::error::Error;
-use std::fmt::{self, Display, Formatter};
+use core::fmt::{self, Display, Formatter};
 
 /// Why a call was refused. A refused call has left everything as it was.
+///
+/// A packet whose opening is refused with 9, 10 or 11 is to be dropped, and nothing closed: anybody on the path can bring
+/// these about. Rubbish, damage and packets sealed with other keys get any of them, and of those sealed with other keys
+/// three in four get 9, for the reserved bits are judged before the tag. So 9 is not the connection error of RFC 9000
+/// section 17.2, which is for bits that are authentic.
 ///
 /// ```
 /// use driftwicket::{read_integer, Refusal};
@@ -17,7 +21,7 @@ use std::fmt::{self, Display, Formatter};
 #[non_exhaustive]
 #[repr(u32)]
 pub enum Refusal {
-    /// The datagram is empty or over 1,500 bytes, or the packet to be written is over 1,500.
+    /// The datagram is empty, or over 1,500 bytes as it came or would be written.
     Size = 1,
     /// The form bit or the fixed bit is clear.
     Form = 2,
@@ -74,27 +78,29 @@ impl Refusal {
     /// assert_eq!(Refusal::Tag.number(), 11);
     /// assert_eq!(Refusal::try_from(11), Ok(Refusal::Tag));
     /// ```
+    #[must_use]
     pub fn number(self) -> u32 {
         self as u32
     }
 
-    /// What is wrong, in words.
+    /// What is wrong, in words: those of the header for C and of the terminal.
     ///
     /// ```
     /// assert_eq!(driftwicket::Refusal::Tag.words(), "the tag doesn't match");
     /// ```
+    #[must_use]
     pub fn words(self) -> &'static str {
         match self {
-            Refusal::Size => "the datagram is empty or over 1,500 bytes, or the packet to be written is over 1,500",
+            Refusal::Size => "the datagram is empty, or over 1,500 bytes",
             Refusal::Form => "the form bit or the fixed bit is clear",
             Refusal::NotWhole => "a field isn't whole",
             Refusal::Version => "the version is unknown, or not that of the keys",
             Refusal::LongId => "a connection ID is over 20 bytes",
             Refusal::Type => "the packet is of another type",
-            Refusal::Short => "Length is below 20, or number length plus payload to be sealed is below 4",
-            Refusal::Room => "the output is smaller than the answer",
+            Refusal::Short => "Length is below 20, or there is too little to seal",
+            Refusal::Room => "the output is too small",
             Refusal::Reserved => "the reserved bits aren't zero after unmasking",
-            Refusal::Range => "the expected number is above 2^62, or a packet number is above 2^62 - 1",
+            Refusal::Range => "a number is out of range",
             Refusal::Tag => "the tag doesn't match",
             Refusal::Length => "the number's length isn't 1 to 4, or is too short",
             Refusal::NoToken => "the Retry token is empty",
@@ -109,7 +115,8 @@ impl Display for Refusal {
     }
 }
 
-impl Error for Refusal {}
+#[cfg(feature = "std")]
+impl std::error::Error for Refusal {}
 
 impl TryFrom<u32> for Refusal {
     type Error = NoRefusal;
@@ -135,4 +142,5 @@ impl Display for NoRefusal {
     }
 }
 
-impl Error for NoRefusal {}
+#[cfg(feature = "std")]
+impl std::error::Error for NoRefusal {}

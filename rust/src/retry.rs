@@ -1,6 +1,9 @@
 //! Retry packets: RFC 9000 section 17.2.5, RFC 9001 section 5.8.
 
-use crate::{ffi, Refusal, Version};
+use crate::ffi;
+use crate::refusal::Refusal;
+use crate::report;
+use crate::version::Version;
 
 /// A Retry packet before it is written.
 #[derive(Clone, Copy, Debug)]
@@ -20,9 +23,12 @@ pub struct Retry<'a> {
     pub low_bits: u64,
 }
 
-/// Writes a Retry packet into the start of `out` and answers its bytes; those behind it stay as they were. Refuses 4, 5,
-/// 13, 1 and 8, in this order, and then leaves `out` as it was.
+/// Writes a Retry packet into the start of `out` and answers its bytes; those behind it stay as they were.
 ///
+/// # Errors
+/// Refuses 4, 5, 13, 1 and 8, in this order, and then leaves `out` as it was.
+///
+/// # Example
 /// ```
 /// use driftwicket::retry::{self, Retry};
 /// use driftwicket::{Refusal, Version, LIMIT};
@@ -46,8 +52,9 @@ pub struct Retry<'a> {
 /// # Ok::<(), Refusal>(())
 /// ```
 pub fn write<'o>(packet: &Retry, out: &'o mut [u8]) -> Result<&'o [u8], Refusal> {
-    let length = ffi::write_retry(packet, out)?;
-    Ok(&out[..ffi::count(length)])
+    let Retry { version, original, destination, source, token, low_bits } = *packet;
+    let length = ffi::write_retry(version.0, [original, destination, source, token], low_bits, out)?;
+    Ok(&out[..report::count(length)])
 }
 
 /// What a Retry packet carries. Both IDs and the token are parts of the caller's datagram.
@@ -66,9 +73,11 @@ pub struct Checked<'d> {
 /// Checks the Retry packet that a datagram is, where `original` is the Destination Connection ID of the client's Initial
 /// that it answers. The packet ends the datagram: bytes behind it would be part of it.
 ///
+/// # Errors
 /// Refuses 5 (original), 1 and 2; then, field by field as they stand, 3 for one that isn't whole before 4, 6 or 5 for
-/// one that is wrong; then 3 and 13 for a tag or a token that isn't there, and 11.
+/// one that is wrong; then 3 and 13 for a tag or a token that isn't there, and 11, on which the packet is to be dropped.
 ///
+/// # Example
 /// ```
 /// use driftwicket::{retry, Refusal, Version};
 ///
@@ -90,6 +99,6 @@ pub struct Checked<'d> {
 /// ```
 pub fn check<'d>(original: &[u8], datagram: &'d [u8]) -> Result<Checked<'d>, Refusal> {
     let [version, parts @ ..] = ffi::check_retry(original, datagram)?;
-    let [destination, source, token] = ffi::parts(datagram, parts);
-    Ok(Checked { version: ffi::version(version), destination, source, token })
+    let [destination, source, token] = report::parts(datagram, parts);
+    Ok(Checked { version: report::version(version), destination, source, token })
 }

@@ -1,6 +1,10 @@
 //! Sealing: RFC 9001 sections 5.3 and 5.4.
 
-use crate::{ffi, FullPn, Keys, Refusal};
+use crate::ffi;
+use crate::keys::Keys;
+use crate::numbers::FullPn;
+use crate::refusal::Refusal;
+use crate::report::count;
 
 /// An Initial packet before it is sealed.
 #[derive(Clone, Copy, Debug)]
@@ -23,9 +27,13 @@ pub struct Initial<'a> {
     pub payload: &'a [u8],
 }
 
-/// Seals a packet into the start of `out` and answers its bytes; those behind it stay as they were. Refuses 4, 10, 14,
-/// 12, 5, 7, 1 and 8, in this order, and then leaves `out` as it was.
+/// Seals a packet into the start of `out` and answers its bytes; those behind it stay as they were. The same number must
+/// never be sealed twice with the same keys: nothing here remembers numbers.
 ///
+/// # Errors
+/// Refuses 4, 10, 14, 12, 5, 7, 1 and 8, in this order, and then leaves `out` as it was.
+///
+/// # Example
 /// ```
 /// use driftwicket::{seal, FullPn, Initial, Keys, Refusal, Side, Version};
 ///
@@ -50,6 +58,9 @@ pub struct Initial<'a> {
 /// # Ok::<(), Refusal>(())
 /// ```
 pub fn seal<'o>(keys: &Keys, packet: &Initial, out: &'o mut [u8]) -> Result<&'o [u8], Refusal> {
-    let length = ffi::seal(keys.as_bytes(), packet, out)?;
-    Ok(&out[..ffi::count(length)])
+    let Initial { number, acknowledged, number_length, destination, source, token, payload } = *packet;
+    let acknowledged = acknowledged.map(|pn| pn.0);
+    let parts = [destination, source, token, payload];
+    let length = ffi::seal(keys.as_bytes(), number.0, acknowledged, number_length, parts, out)?;
+    Ok(&out[..count(length)])
 }

@@ -1,6 +1,6 @@
 //! QUIC versions, by their numbers.
 
-use std::fmt::{self, Debug, Display, Formatter};
+use core::fmt::{self, Debug, Display, Formatter};
 
 /// A QUIC version's number. Only the library decides which are known: any other is [`Refusal::Version`].
 ///

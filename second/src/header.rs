@@ -1,8 +1,8 @@
 //! Long headers (RFC 9000 section 17.2): their fields in turn, and the header of an Initial packet.
 
 use crate::integer;
-use crate::keys::{version, Version};
 use crate::refusal::{ensure, Refusal};
+use crate::version::{version, Version};
 
 /// The longest datagram read and packet written.
 pub const LARGEST_DATAGRAM: usize = 1_500;

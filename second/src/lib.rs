@@ -19,6 +19,7 @@ pub mod refusal;
 pub mod retry;
 pub mod seal;
 pub mod sha256;
+pub mod version;
 
 #[cfg(test)]
 mod order;

@@ -8,7 +8,7 @@
 //!     cargo run --release -- 1 --seed 12345         others
 //!     cargo test --lib                              the public vectors, by the second program alone
 //!
-//! DRIFTWICKET_LIB_DIR names the directory of the static library where it isn't ../target/staticlib.
+//! DRIFTWICKET_LIB_DIR names the directory of the static library where it isn't ../build.
 //! One comparison is one call. The case of a difference is printed with its inputs as hex. The last line is
 //! 'N passed, M failed', and the exit status is 1 where anything failed.
 
@@ -70,7 +70,7 @@ fn compare_entry(entry: &Entry, options: &Options) -> Tally {
     }
     let seconds = start.elapsed().as_secs_f64();
     println!("  {:>9} in {seconds:.1} s: {}", tally.count(), tally.summary());
-    for number in tally.not_reached(entry) {
+    for number in tally.not_reached(entry.refusals) {
         println!("  NOT REACHED: no call was answered {number}, so nothing is shown of it");
         tally.failed += 1;
     }

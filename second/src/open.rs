@@ -2,10 +2,11 @@
 
 use crate::gcm::Gcm;
 use crate::header::{read_initial, NUMBER_LENGTH_BITS, RESERVED_BITS, TAG};
-use crate::keys::{version, Keys};
+use crate::keys::Keys;
 use crate::numbers::{recover, NUMBER_LIMIT};
 use crate::refusal::{ensure, Refusal};
 use crate::seal::mask;
+use crate::version::version;
 
 /// What opening answers.
 #[derive(Clone, Debug, PartialEq, Eq)]

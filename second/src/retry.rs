@@ -2,8 +2,8 @@
 
 use crate::gcm::Gcm;
 use crate::header::{read_start, start_words, Fields, Place, FIXED_BIT, FORM_BIT, LARGEST_DATAGRAM, LONGEST_ID, TAG};
-use crate::keys::{version, Version};
 use crate::refusal::{ensure, Refusal};
+use crate::version::{version, Version};
 
 /// What goes into a Retry.
 #[derive(Clone, Debug)]

@@ -6,9 +6,10 @@ use crate::header::{
     FIXED_BIT, FORM_BIT, LARGEST_DATAGRAM, LONGEST_ID, NUMBER_LENGTH_BITS, RESERVED_BITS, SAMPLE, SAMPLE_OFFSET, TAG,
 };
 use crate::integer;
-use crate::keys::{version, Keys};
+use crate::keys::Keys;
 use crate::numbers::shorten;
 use crate::refusal::{ensure, Refusal};
+use crate::version::version;
 
 /// What goes into a packet.
 #[derive(Clone, Debug)]

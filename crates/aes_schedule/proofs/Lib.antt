@@ -1,3 +1,3 @@
-pub mod Powers
+pub mod PowerTable
 pub mod Growth
 pub mod Laws

@@ -1,5 +1,6 @@
 -- FIPS 197 section 5.2: the key schedule, 44 words of four bytes one after the other.
-use Prim.Native.Nat.{ℕ, zero, suc, _+_, _-_, _*_, _/_, _%_}
+use Prim.Native.Nat.{ℕ, zero, suc, _+_, _-_, _*_, _/_, _%_, _<_}
+use mathlib.Core.Path.{_≡_}
 use mathlib.Core.Bool.{Bool, true, false}
 use mathlib.Core.List.{List, [], _∷_, _++_}
 use lib.Dec.{eqb}
@@ -19,6 +20,10 @@ rotWord a = row (λ j. getD a ((j + 1) % 4) 0)
 unfoldable pub xPower : ℕ → ℕ
 xPower zero = 1
 xPower (suc n) = xTimes (xPower n)
+
+-- a table of the powers of x, from the first on
+pub record Powers (table : List ℕ) : Type 0 where
+  pub rule : (n : ℕ) → n < 10 → getD table n 0 ≡ xPower n
 
 -- table 5: Rcon[j] is x^(j-1) and three zeros
 abbrev pub rcon : ℕ → List ℕ

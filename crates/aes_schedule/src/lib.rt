@@ -6,17 +6,25 @@ ghost use Prim.Native.Nat.{_%_, _≤_, _<_};
 ghost use lib.ListN.{length};
 ghost use lib.Dec.{eqb};
 ghost use Rattle.aes_s_box.specs.Box.{Box};
-ghost use Rattle.aes_schedule.specs.Expansion.{word, rotWord, rcon, turned, nextWord, expansion};
+ghost use Rattle.aes_schedule.specs.Expansion.{word, rotWord, Powers, rcon, turned, nextWord, expansion};
 
 // Table 5: the first bytes of Rcon[1] to Rcon[10], the powers of x.
 const POWERS: [u8; 10] = *b"\x01\x02\x04\x08\x10\x20\x40\x80\x1b\x36";
+
+// Table 5: the powers of x, from the first on.
+fn powers() -> [u8; 10]
+    ensures { λ r. ⌜ Powers r ⌝ }
+{
+    POWERS
+}
 
 // Table 5: Rcon[j].
 fn rcon(j: usize) -> [u8; 4]
     requires { ⌜ (1 ≤ j) × (j ≤ 10) ⌝ }
     ensures { λ r. ⌜ r ≡ rcon j ⌝ }
 {
-    [POWERS[j - 1], 0, 0, 0]
+    let table = powers();
+    [table[j - 1], 0, 0, 0]
 }
 
 // RotWord.

@@ -1,8 +1,8 @@
--- FIPS 197 section 3.4 and sections 5.1.1 to 5.1.4: the state and the steps of a round.
-use Prim.Native.Nat.{ℕ, _+_, _*_, _%_}
+-- FIPS 197 section 3.4 and sections 5.1.1 and 5.1.4: the state, and the steps of a round that go byte by byte.
+use Prim.Native.Nat.{ℕ, _+_, _*_}
 use mathlib.Core.List.{List, [], _∷_, _++_}
 use lib.ListN.{getD}
-use Rattle.aes_s_box.specs.Field.{_⊕_, _•_}
+use Rattle.aes_s_box.specs.Field.{_⊕_}
 use Rattle.aes_s_box.specs.Box.{sBox}
 
 -- ---- section 3.4: the state, four rows of four bytes
@@ -35,18 +35,6 @@ output s = column s 0 ++ column s 1 ++ column s 2 ++ column s 3
 -- section 5.1.1
 abbrev pub subBytes : State → State
 subBytes s = state (λ r c. sBox (at s r c))
-
--- section 5.1.2: row r moves r places to the left
-abbrev pub shiftRows : State → State
-shiftRows s = state (λ r c. at s r ((c + r) % 4))
-
--- section 5.1.3: a byte of a column times the polynomial {03}x^3 + {01}x^2 + {01}x + {02}, from that byte and the three below it
-unfoldable pub mixed : ℕ → ℕ → ℕ → ℕ → ℕ
-mixed a b c d = 2 • a ⊕ 3 • b ⊕ c ⊕ d
-
--- section 5.1.3
-abbrev pub mixColumns : State → State
-mixColumns s = state (λ r c. mixed (at s r c) (at s ((r + 1) % 4) c) (at s ((r + 2) % 4) c) (at s ((r + 3) % 4) c))
 
 -- section 5.1.4: a round key, its words as columns, is added
 abbrev pub addRoundKey : State → State → State

@@ -8,16 +8,19 @@ use lib.ListN.{length, take}
 use lib.Seq.{length-take-le}
 use Rattle.octets.specs.Outcome.{given}
 use Rattle.octets.proofs.Outcome.{passed, given-same}
-use Rattle.sha256.specs.Constants.{H⁰}
-use Rattle.sha256.specs.Sha256.{padding, blocks, compressed, absorbed, hash}
+use Rattle.sha256_constants.specs.Constants.{H⁰}
+use Rattle.sha256_padding.specs.Padding.{padding}
+use Rattle.sha256.specs.Sha256.{blocks, compressed, absorbed, hash}
 use Rattle.sha256.proofs.Digest.{digest-length}
-use Rattle.hkdf.specs.Hkdf.{hmac, T, Ts, expand, info, expandLabel}
-use Rattle.wire.specs.Versions.{known, version}
-use Rattle.wire.specs.Header.{longestId}
+use Rattle.hmac.specs.Hmac.{hmac}
+use Rattle.hkdf.specs.Hkdf.{T, Ts, expand, info, expandLabel}
+use Rattle.versions.specs.Versions.{known, version}
+use Rattle.header_fields.specs.Fields.{longestId}
 use Rattle.packets.specs.Protection.{Keys}
-use Rattle.keys.specs.InitialKeys.{Side, sideSecret, keysFrom, initialKeys}
-use Rattle.driftwicket_c.specs.Arguments.{keyBytes, keysIn}
-use Rattle.driftwicket_c.proofs.KeyRecords.{Sized, keys-back}
+use Rattle.keys.specs.InitialKeys.{Side, sideSecret, initialKeys}
+use Rattle.keys_expansion.specs.Expansion.{keysFrom}
+use Rattle.c_key_record.specs.Layout.{keyBytes, keysIn}
+use Rattle.c_key_record.proofs.KeyRecords.{Sized, keys-back}
 
 -- ---- FIPS 180-4: a hash value has eight words
 eight-words : (h : List ℕ) (blocks : List (List ℕ)) → length h ≡ 8 → length (foldl compressed h blocks) ≡ 8

@@ -1,50 +1,26 @@
--- No refusal is numbered 0: an answer of 0 says that something is given, and what is reported is of it.
-use Prim.Native.Nat.{ℕ, _+_, _-_, _/_, _%_, _^_, _<_}
-use mathlib.Core.Path.{_≡_, refl, ap}
-use mathlib.Core.Bool.{Bool, true, false, _&&_}
+-- No refusal is numbered 0 (of keys: c_keys, KeysAnswered.antt), so that an answer of 0 says that something is given.
+use Prim.Native.Nat.{ℕ, _+_, _-_, _/_, _%_, _^_}
+use mathlib.Core.Bool.{Bool, true, _&&_}
 use mathlib.Core.List.{List, _∷_, _++_}
-use native.Mathlib.Omega.{arith}
 use lib.Dec.{leb, ltb, eqb, lit<}
 use lib.ListN.{length, getD, take, drop}
-use Rattle.octets.specs.Outcome.{Outcome, refused, given, unless, _>>=_, _>>_}
 use Rattle.octets.specs.Octets.{number, part, same}
-use Rattle.octets.proofs.Outcome.{apart}
-use Rattle.numbers.specs.Integer.{integer}
-use Rattle.numbers.specs.Numbers.{Acknowledged, nothing, upTo, numbers, window, half, coverable, ahead, gap, smallestLength, shortened, decoded, recovered}
-use Rattle.wire.specs.Versions.{Version, known, version}
-use Rattle.wire.specs.Header.{limit, longestId, leastLength, tagLength, behind, versionOf, judged, idAt, long, integerAt, fieldAt, restAt, header}
-use Rattle.writing.specs.Written.{Plain}
+use Rattle.integers.specs.Integer.{integer}
+use Rattle.numbers.specs.Numbers.{numbers, window, half}
+use Rattle.numbers_shortening.specs.Shortening.{Acknowledged, nothing, upTo, coverable, ahead, gap, smallestLength, shortened}
+use Rattle.numbers_recovery.specs.Recovery.{decoded, recovered}
+use Rattle.versions.specs.Versions.{Version, known, version}
+use Rattle.header_fields.specs.Fields.{longestId, leastLength, tagLength, behind, idAt, integerAt, fieldAt, restAt}
+use Rattle.header_long.specs.LongHeader.{limit, versionOf, judged, long}
+use Rattle.header_initial.specs.InitialHeader.{header}
+use Rattle.header_writing.specs.Written.{Plain}
 use Rattle.packets.specs.Suite.{Suite}
 use Rattle.packets.specs.Protection.{Keys, nonce, onFirst, onNumber}
 use Rattle.packets.specs.Packet.{maskOf, packetOf, sealed, unprotected, opened}
-use Rattle.keys.specs.InitialKeys.{Side, initialKeys}
 use Rattle.retry_tag.specs.Tag.{retryTag, tagged}
 use Rattle.retry_writing.specs.Written.{untagged, retryWritten}
 use Rattle.retry_checking.specs.Retry.{tokenAt, retryChecked}
-use Rattle.driftwicket_c.specs.Promises.{Answers}
-
-pub record Numbered {A : Type 0} (o : Outcome A) : Type 0 where
-  pub number : (n : ℕ) → refused n ≡ o → 0 < n
-
--- ---- what an answer of 0 says
-pub zero-given : {A : Type 0} {reportOf : A → List ℕ} {before report : List ℕ} (o : Outcome A) → Numbered o → Answers o reportOf before 0 report
-    → (a : A) × (o ≡ given a) × (report ≡ reportOf a)
-zero-given (refused n) numbered answers = let never : ⊥ = omega (arith, numbered .number n refl, answers .answer) in absurd never
-zero-given (given a) numbered answers = (a, refl, answers .reported)
-
--- ---- guards and steps
-some : {A : Type 0} {a : A} → Numbered (given a)
-some = record { number = λ n e. absurd (apart e) }
-
--- behind a test whose refusal has a number
-tested : {A : Type 0} (n : ℕ) (b : Bool) {o : Outcome A} → 0 < n → Numbered o → Numbered (unless n b >> o)
-tested n true some rest = rest
-tested n false some rest = record { number = λ m e. let same : m ≡ n = cc in rw same some }
-
--- behind a step, whatever it gives
-stepped : {A B : Type 0} (o : Outcome A) {f : A → Outcome B} → Numbered o → ((a : A) → Numbered (f a)) → Numbered (o >>= f)
-stepped (refused n) numbered rest = record { number = λ m e. let same : m ≡ n = cc in numbered .number m (ap refused same) }
-stepped (given a) numbered rest = rest a
+use Rattle.c_forms.proofs.Numbered.{Numbered, some, tested, stepped}
 
 -- ---- integers and packet numbers
 pub integer-numbered : (s : List ℕ) → Numbered (integer s)
@@ -127,11 +103,7 @@ module _ (d : List ℕ) where
       stepped (long takes (λ v. v .initialType) d) (long-numbered takes (λ v. v .initialType))
       (λ l. stepped (fieldAt d (behind (l .source))) (field-numbered (behind (l .source))) (λ token. stepped (restAt d (behind token)) (rest-numbered (behind token)) (λ rest. some)))
 
--- ---- keys, sealing and opening
-pub initial-keys-numbered : (v : ℕ) (destination : List ℕ) (side : Side) → Numbered (initialKeys v destination side)
-unfolding initialKeys
-initial-keys-numbered v destination side = tested 4 (known v) (lit< tt) (tested 5 (leb (length destination) longestId) (lit< tt) some)
-
+-- ---- sealing and opening
 module _ (suite : Suite) (k : Keys) where
   pub sealed-numbered : (a : Acknowledged) (p : Plain) (room : ℕ) → Numbered (sealed suite k a p room)
   unfolding sealed

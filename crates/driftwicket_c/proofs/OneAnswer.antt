@@ -3,8 +3,14 @@ use Prim.Native.Nat.{ℕ}
 use mathlib.Core.Path.{_≡_, sym, _∙_}
 use mathlib.Core.List.{List}
 use Rattle.octets.specs.Outcome.{Outcome}
-use Rattle.writing.specs.Written.{Plain}
-use Rattle.driftwicket_c.specs.Promises.{Answers, Writes, DwReadInteger, DwSmallestLength, DwShorten, DwRecover, DwInitialKeys, DwSeal, DwOpen, DwReadHeader, DwWriteRetry, DwCheckRetry}
+use Rattle.header_writing.specs.Written.{Plain}
+use Rattle.c_forms.specs.Promises.{Answers, Writes}
+use Rattle.c_numbers.specs.Promises.{DwReadInteger, DwSmallestLength, DwShorten, DwRecover}
+use Rattle.c_keys.specs.Promises.{DwInitialKeys}
+use Rattle.c_seal.specs.Promises.{DwSeal}
+use Rattle.c_open.specs.Promises.{DwOpen}
+use Rattle.c_header.specs.Promises.{DwReadHeader}
+use Rattle.c_retry.specs.Promises.{DwWriteRetry, DwCheckRetry}
 
 module _ {before : List ℕ} {r r′ : ℕ} {report report′ : List ℕ} where
   answers-once : {A : Type 0} {o : Outcome A} {reportOf : A → List ℕ} → Answers o reportOf before r report → Answers o reportOf before r′ report′ → (r ≡ r′) × (report ≡ report′)

@@ -7,8 +7,8 @@ use lib.ListN.{length, take, drop, getD}
 use lib.Seq.{take-at}
 use Rattle.octets.specs.Outcome.{Outcome, given}
 use Rattle.octets.specs.Octets.{placed}
-use Rattle.wire.specs.Header.{limit}
-use Rattle.writing.specs.Written.{Plain, plainHeader}
+use Rattle.header_long.specs.LongHeader.{limit}
+use Rattle.header_writing.specs.Written.{Plain, plainHeader}
 use Rattle.packets.specs.Protection.{Keys}
 use Rattle.packets.specs.Packet.{Opened, sealed, opened}
 use Rattle.packets.specs.Effects.{output, after}
@@ -16,10 +16,13 @@ use Rattle.packets.specs.AesGcm.{aesGcm}
 use Rattle.packets.proofs.Sealing.{sealing}
 use Rattle.packets.proofs.RoundTrip.{opened-back}
 use Rattle.packets.proofs.AesGcmLaws.{aes-gcm-laws}
-use Rattle.driftwicket_c.specs.Arguments.{acknowledgedBy, keysIn}
-use Rattle.driftwicket_c.specs.Promises.{answered, told, openedNumbers}
+use Rattle.c_forms.specs.Arguments.{acknowledgedBy}
+use Rattle.c_forms.specs.Promises.{answered, told}
+use Rattle.c_forms.proofs.Numbered.{zero-given}
+use Rattle.c_key_record.specs.Layout.{keysIn}
+use Rattle.c_open.specs.Promises.{openedNumbers}
 use Rattle.driftwicket_c.specs.Reopened.{Sealed, Reopens}
-use Rattle.driftwicket_c.proofs.Numbered.{zero-given, sealed-numbered}
+use Rattle.driftwicket_c.proofs.Numbered.{sealed-numbered}
 
 module _ (keys : List ℕ) (p : Plain) (size : ℕ) (then : List ℕ) (s : Sealed keys p size then) where
   abbrev meant : Keys

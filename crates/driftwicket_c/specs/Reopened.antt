@@ -4,11 +4,14 @@ use mathlib.Core.Path.{_≡_}
 use mathlib.Core.List.{List, [], _∷_, _++_}
 use lib.ListN.{length, take}
 use Rattle.octets.specs.Octets.{begun}
-use Rattle.numbers.specs.Numbers.{numbers, Near}
-use Rattle.wire.specs.Header.{limit, tagLength}
-use Rattle.writing.specs.Written.{Plain, plainHeader}
-use Rattle.driftwicket_c.specs.Arguments.{keysIn}
-use Rattle.driftwicket_c.specs.Promises.{DwSeal, DwOpen}
+use Rattle.numbers.specs.Numbers.{numbers}
+use Rattle.numbers_recovery.specs.Recovery.{Near}
+use Rattle.header_fields.specs.Fields.{tagLength}
+use Rattle.header_long.specs.LongHeader.{limit}
+use Rattle.header_writing.specs.Written.{Plain, plainHeader}
+use Rattle.c_key_record.specs.Layout.{keysIn}
+use Rattle.c_seal.specs.Promises.{DwSeal}
+use Rattle.c_open.specs.Promises.{DwOpen}
 
 -- a packet that was sealed into a buffer, which held other bytes before, and was reported with its size
 pub record Sealed (keys : List ℕ) (p : Plain) (size : ℕ) (then : List ℕ) : Type 0 where

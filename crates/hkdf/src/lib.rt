@@ -1,49 +1,14 @@
-// HMAC, HKDF and the labels of TLS 1.3 with SHA-256, by RFC 2104, RFC 5869 and RFC 8446 section 7.1.
+// HKDF and the labels of TLS 1.3 with SHA-256, by RFC 5869 and RFC 8446 section 7.1.
+use hmac::hmac;
 ghost use mathlib.Core.Path.{_≡_};
-ghost use mathlib.Core.List.{_++_};
 ghost use Prim.Native.Nat.{_+_, _*_, _^_, _≤_, _<_};
 ghost use lib.ListN.{length};
 ghost use Rattle.octets.specs.Octets.{begun};
-ghost use Rattle.sha256.specs.Sha256.{hash};
-ghost use Rattle.hkdf.specs.Hkdf.{keyed, hmac, extract, T, info, expandLabel};
+ghost use Rattle.hkdf.specs.Hkdf.{extract, T, info, expandLabel};
 
-// RFC 2104 section 2: the bytes that pad the inner and the outer key.
-const INNER_PAD: u8 = 0x36;
-
-const OUTER_PAD: u8 = 0x5c;
-
-// RFC 2104 section 2: a key as a block, combined with a pad byte repeated.
-fn keyed_block(key: &[u8], pad: u8) -> [u8; 64]
-    requires { ⌜ length (now key) ≤ 64 ⌝ }
-    ensures { λ r. ⌜ r ≡ keyed (now (key .entry)) pad ⌝ }
-{
-    let pads = [pad; 64];
-    let mut block = [pad; 64];
-    octets::copy_masked(&mut block, 0, key, &pads);
-    block
-}
-
-// RFC 2104 section 2: the hash of a keyed block and a text behind it.
-fn keyed_hash(key: &[u8], pad: u8, text: &[u8]) -> [u8; 32]
-    requires { ⌜ (length (now key) ≤ 64) × (8 * (64 + length (now text)) < 2 ^ 64) ⌝ }
-    ensures { λ r. ⌜ r ≡ hash (keyed (now (key .entry)) pad ++ now (text .entry)) ⌝ }
-{
-    let block = keyed_block(key, pad);
-    sha256::finish(sha256::compress(sha256::initial(), &block), 64, text)
-}
-
-// RFC 2104: HMAC of a text, under a key of up to a block.
-pub fn hmac(key: &[u8], text: &[u8]) -> [u8; 32]
-    requires { ⌜ (length (now key) ≤ 64) × (8 * (64 + length (now text)) < 2 ^ 64) ⌝ }
-    ensures { λ r. ⌜ r ≡ hmac (now (key .entry)) (now (text .entry)) ⌝ }
-{
-    let inner = keyed_hash(key, INNER_PAD, text);
-    keyed_hash(key, OUTER_PAD, &inner)
-}
-
-// RFC 5869 section 2.2: the pseudorandom key of a salt of up to a block and input keying material.
+// RFC 5869 section 2.2: the pseudorandom key of a salt and input keying material.
 pub fn extract(salt: &[u8], ikm: &[u8]) -> [u8; 32]
-    requires { ⌜ (length (now salt) ≤ 64) × (8 * (64 + length (now ikm)) < 2 ^ 64) ⌝ }
+    requires { ⌜ (8 * length (now salt) < 2 ^ 64) × (8 * (64 + length (now ikm)) < 2 ^ 64) ⌝ }
     ensures { λ r. ⌜ r ≡ extract (now (salt .entry)) (now (ikm .entry)) ⌝ }
 {
     hmac(salt, ikm)

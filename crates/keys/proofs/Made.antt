@@ -6,15 +6,10 @@ use mathlib.Core.List.{List}
 use lib.ListN.{length}
 use borrow.Author.Tests.{le-leb, lt-leb}
 use Rattle.octets.specs.Outcome.{refused, given}
-use Rattle.wire.specs.Versions.{known}
-use Rattle.wire.specs.Header.{longestId}
-use Rattle.packets.specs.Protection.{Keys}
-use Rattle.keys.specs.InitialKeys.{Side, sideSecret, keysFrom, initialKeys}
-
--- keys are the same where their parts are
-pub keys-same : (v : ℕ) {key key′ iv iv′ hp hp′ : List ℕ} → key ≡ key′ → iv ≡ iv′ → hp ≡ hp′
-    → _≡_ {A = Keys} (record { version = v; key = key; iv = iv; hp = hp }) (record { version = v; key = key′; iv = iv′; hp = hp′ })
-keys-same v p q r = rw (p, q, r)
+use Rattle.versions.specs.Versions.{known}
+use Rattle.header_fields.specs.Fields.{longestId}
+use Rattle.keys_expansion.specs.Expansion.{keysFrom}
+use Rattle.keys.specs.InitialKeys.{Side, sideSecret, initialKeys}
 
 module _ (v : ℕ) (destination : List ℕ) (side : Side) where
   pub unknown-version : known v ≡ false → initialKeys v destination side ≡ refused 4

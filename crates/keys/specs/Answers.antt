@@ -1,28 +1,20 @@
--- The code's parts and answers as what they stand for, and what making Initial keys promises.
+-- The code's sides and answers as what they stand for, and what making Initial keys promises.
 use Prim.Native.Nat.{ℕ}
 use mathlib.Core.Path.{_≡_}
 use mathlib.Core.List.{List}
 use lib.ListN.{replicate}
 use Rattle.octets.specs.Outcome.{Outcome, refused, given}
-use Rattle.wire.specs.Versions.{Version}
 use Rattle.packets.specs.Protection.{Keys}
 use Rattle.packets.specs.KeyRecord.{keysOf}
 use Rattle.keys.specs.InitialKeys as Section5
 use Rattle.keys.specs.InitialKeys.{initialKeys}
 use Rattle.keys.specs.declared.Side.{Side}
 use Rattle.keys.specs.declared.Side.the-variants as Side
-use Rattle.keys.specs.declared.Part.{Part}
-use Rattle.keys.specs.declared.Part.the-variants as Part
 use Rattle.keys.specs.declared.InitialKeys.{InitialKeys}
 
 abbrev pub sideOf : Side → Section5.Side
 sideOf Side.Client = Section5.client
 sideOf Side.Server = Section5.server
-
-abbrev pub labelOf : Part → Version → List ℕ
-labelOf Part.Key v = v .keyLabel
-labelOf Part.Iv v = v .ivLabel
-labelOf Part.Hp v = v .hpLabel
 
 -- the record that stands beside a refusal
 abbrev pub blankKeys : Keys

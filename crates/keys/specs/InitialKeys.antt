@@ -1,4 +1,4 @@
--- RFC 9001 sections 5.1 and 5.2: the keys of Initial packets.
+-- RFC 9001 section 5.2: the keys of Initial packets.
 use Prim.Native.Nat.{ℕ}
 use mathlib.Core.List.{List}
 use lib.Dec.{leb}
@@ -6,9 +6,10 @@ use lib.ListN.{length}
 use Rattle.octets.specs.Outcome.{Outcome, given, unless, _>>=_, _>>_}
 use Rattle.octets.specs.Text.{ascii}
 use Rattle.hkdf.specs.Hkdf.{extract, expandLabel}
-use Rattle.wire.specs.Versions.{known, version}
-use Rattle.wire.specs.Header.{longestId}
+use Rattle.versions.specs.Versions.{known, version}
+use Rattle.header_fields.specs.Fields.{longestId}
 use Rattle.packets.specs.Protection.{Keys}
+use Rattle.keys_expansion.specs.Expansion.{keysFrom}
 
 pub data Side : Type 0 where
   client : Side
@@ -22,15 +23,6 @@ sideLabel server = ascii "server in"
 -- the initial secret comes of the version's salt and the connection ID, and each side's secret of that one
 unfoldable pub sideSecret : (v : ℕ) (destination : List ℕ) → Side → List ℕ
 sideSecret v destination side = expandLabel (extract (version v .salt) destination) (sideLabel side) 32
-
--- section 5.1: key, iv and hp
-unfoldable pub keysFrom : (v : ℕ) (secret : List ℕ) → Keys
-keysFrom v secret = record {
-  version = v;
-  key = expandLabel secret (version v .keyLabel) 16;
-  iv = expandLabel secret (version v .ivLabel) 12;
-  hp = expandLabel secret (version v .hpLabel) 16;
-}
 
 unfoldable pub initialKeys : (v : ℕ) (destination : List ℕ) → Side → Outcome Keys
 initialKeys v destination side = do

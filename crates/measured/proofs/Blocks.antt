@@ -9,9 +9,9 @@ use Rattle.octets.specs.Octets.{Bytes, number, laid}
 use Rattle.octets.proofs.Buffers.{laid-length, laid-rest}
 use Rattle.aes128.specs.Cipher.{encrypted}
 use Rattle.aes128.proofs.Laws.{encrypted-length}
-use Rattle.gcm.specs.Hash.{State, blocks, chained, ghash, start, absorbed}
+use Rattle.gcm_hash.specs.Hash.{State, blocks, chained, ghash, start, absorbed}
 use Rattle.octets.proofs.Bytes.{take-bytes}
-use Rattle.gcm.proofs.Stream.{whole}
+use Rattle.gcm_hash.proofs.Stream.{whole}
 use Rattle.measured.specs.Measured.{enciphered}
 
 -- ---- hashed

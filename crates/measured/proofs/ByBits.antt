@@ -8,10 +8,9 @@ use lib.Bits.{bitXor}
 use lib.ListN.{length, take, drop}
 use lib.Seq.{drop-drop}
 use Rattle.octets.specs.Octets.{number}
-use Rattle.gcm.specs.Field.{bit, next, steps, _•_}
-use Rattle.gcm.specs.Table.{nexts}
-use Rattle.gcm.specs.Hash.{blocks, chained, ghash}
-use Rattle.gcm.proofs.Linear.{steps-add, steps-low}
+use Rattle.gcm_field.specs.Field.{bit, next, steps, _•_, nexts}
+use Rattle.gcm_hash.specs.Hash.{blocks, chained, ghash}
+use Rattle.gcm_field.proofs.Linear.{steps-add, steps-low}
 
 -- ---- the product
 -- a digit times a number is no more than the number

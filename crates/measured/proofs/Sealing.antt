@@ -10,8 +10,9 @@ use lib.Seq.{take-at}
 use Rattle.octets.specs.Octets.{laid, begun, placed}
 use Rattle.octets.specs.Outcome.{Outcome, refused, given}
 use Rattle.octets.proofs.Buffers.{goes-on}
-use Rattle.gcm.specs.Gcm.{hashKey, streamBy, tagBy}
-use Rattle.gcm.proofs.Laws.{stream-by-length}
+use Rattle.gcm.specs.Gcm.{hashKey, tagBy}
+use Rattle.gcm_counter.specs.Counter.{streamBy}
+use Rattle.gcm_counter.proofs.Laws.{stream-by-length}
 use Rattle.measured.specs.Measured.{sealing, answer}
 
 module _ (w nonce associated text out : List ℕ) where

@@ -5,7 +5,8 @@ use lib.Dec.{leb}
 use lib.ListN.{length, take, drop}
 use Rattle.octets.specs.Outcome.{Outcome, refused, given, unless, _>>_}
 use Rattle.aes128.specs.Cipher.{encrypted}
-use Rattle.gcm.specs.Gcm.{hashKey, streamBy, tagBy}
+use Rattle.gcm.specs.Gcm.{hashKey, tagBy}
+use Rattle.gcm_counter.specs.Counter.{streamBy}
 
 -- the first n blocks of some bytes enciphered, and the rest as it was
 unfoldable pub enciphered : List ℕ → ℕ → List ℕ → List ℕ

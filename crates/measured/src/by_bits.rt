@@ -1,10 +1,9 @@
 // SP 800-38D sections 6.3 and 6.4 as they are written, a bit at a time: what the table is measured against.
 ghost use mathlib.Core.Path.{_≡_};
 ghost use Prim.Native.Nat.{_*_, _<_};
-ghost use Rattle.gcm.specs.Field.{steps, _•_};
-ghost use Rattle.gcm.specs.Table.{num, nexts};
-ghost use Rattle.gcm.specs.Hash.{ghash};
-use gcm::field::Block;
+ghost use Rattle.gcm_field.specs.Field.{steps, _•_, num, nexts};
+ghost use Rattle.gcm_hash.specs.Hash.{ghash};
+use gcm_field::Block;
 
 // Z and V, on their way through the bits of X.
 pub struct Walk {
@@ -32,8 +31,8 @@ fn through(w: u64, earlier: Walk) -> Walk
     let mut n: u64 = 64;
     while 0 < n {
         n -= 1;
-        z = gcm::field::add(z, chosen((w >> n) % 2, v));
-        v = gcm::field::shifted(v);
+        z = gcm_field::add(z, chosen((w >> n) % 2, v));
+        v = gcm_field::shifted(v);
     }
     Walk { z, v }
 }
@@ -58,7 +57,7 @@ pub fn hash(h: Block, source: &[u8]) -> Block
     let mut y = Block { hi: 0, lo: 0 };
     let mut at: usize = 0;
     while 16 <= source.len() - at {
-        y = times(gcm::field::add(y, gcm::hash::load_block(source, at)), h);
+        y = times(gcm_field::add(y, gcm_hash::load_block(source, at)), h);
         at += 16;
     }
     y

@@ -1,13 +1,13 @@
 // The inner parts of the library as C functions, so that `make bench` can time each alone. No part of the product.
 pub mod by_bits;
 
-use gcm::field::Block;
+use gcm_field::Block;
 ghost use mathlib.Core.Path.{_≡_};
 ghost use Prim.Native.Nat.{_/_};
 ghost use lib.ListN.{length};
 ghost use Rattle.octets.specs.Octets.{bytes, number, placed};
 ghost use Rattle.aes_schedule.specs.Expansion.{expansion};
-ghost use Rattle.gcm.specs.Hash.{ghash};
+ghost use Rattle.gcm_hash.specs.Hash.{ghash};
 ghost use Rattle.measured.specs.Measured.{enciphered, sealing, answer};
 
 // The most bytes that a text or its associated data may have here.
@@ -42,11 +42,11 @@ pub extern "C" fn dw_measure_blocks(schedule: &[u8; 176], buffer: &mut [u8])
 pub extern "C" fn dw_measure_ghash(key: &[u8; 16], source: &[u8], out: &mut [u8; 16])
     ensures { λ _. ⌜ now (out .exit) ≡ bytes 16 (ghash (number (now (key .entry))) (now (source .entry))) ⌝ }
 {
-    let table = gcm::field::make_table(gcm::hash::load_block(key, 0));
+    let table = gcm_table::make_table(gcm_hash::load_block(key, 0));
     let whole = source.len() / 16 * 16;
-    let g = gcm::hash::absorb(gcm::hash::begin(), &table, &source[0..whole]);
+    let g = gcm_hash::absorb(gcm_hash::begin(), &table, &source[0..whole]);
     let y = g.y;
-    *out = gcm::tag::spelled(y);
+    *out = gcm::spelled(y);
 }
 
 // The same, bit by bit.
@@ -54,7 +54,7 @@ pub extern "C" fn dw_measure_ghash(key: &[u8; 16], source: &[u8], out: &mut [u8;
 pub extern "C" fn dw_measure_ghash_by_bits(key: &[u8; 16], source: &[u8], out: &mut [u8; 16])
     ensures { λ _. ⌜ now (out .exit) ≡ bytes 16 (ghash (number (now (key .entry))) (now (source .entry))) ⌝ }
 {
-    *out = gcm::tag::spelled(by_bits::hash(gcm::hash::load_block(key, 0), source));
+    *out = gcm::spelled(by_bits::hash(gcm_hash::load_block(key, 0), source));
 }
 
 // GCM under a key schedule: cipher and tag at the start of `out`. 1, or 0 where they do not fit or there is too much to read.
@@ -79,9 +79,9 @@ pub extern "C" fn dw_measure_gcm(
     if out.len() < end + 16 {
         return 0;
     }
-    gcm::counter::crypt(schedule, nonce, text, out, 0);
-    let key = gcm::tag::hash_key(schedule);
-    let tag = gcm::tag::make_tag(schedule, key, nonce, associated, &[], &[], &out[0..end]);
+    gcm_counter::crypt(schedule, nonce, text, out, 0);
+    let key = gcm::hash_key(schedule);
+    let tag = gcm::make_tag(schedule, key, nonce, associated, &[], &[], &out[0..end]);
     octets::copy(out, end, &tag);
     1
 }

@@ -1,3 +1,1 @@
-pub mod Integer
 pub mod Numbers
-pub mod Answers

@@ -7,15 +7,19 @@ use lib.ListN.{length}
 use Rattle.octets.specs.Outcome.{refused, given}
 use Rattle.octets.specs.Octets.{begun}
 use Rattle.aes_schedule.specs.Expansion.{expansion}
-use Rattle.gcm.specs.Gcm.{stream, streamBy, tag}
-use Rattle.gcm.proofs.Laws.{stream-length}
+use Rattle.gcm_counter.specs.Counter.{stream, streamBy}
+use Rattle.gcm.specs.Gcm.{tag}
+use Rattle.gcm_counter.proofs.Laws.{stream-length}
 use Rattle.packets.specs.Protection.{Keys, nonce}
 use Rattle.packets.specs.Packet.{opened}
 use Rattle.packets.specs.AesGcm.{aesGcm}
-use Rattle.open.specs.Found.{plainOf, cipherOf, openedAs, Found, Matches, Writes}
+use Rattle.open_unmasking.specs.Parts.{plainOf, cipherOf}
+use Rattle.open_unmasking.specs.declared.Packet.{Packet}
+use Rattle.open_judging.specs.Found.{openedAs, Found}
+use Rattle.open_tag.specs.Matching.{Matches}
+use Rattle.open_writing.specs.Written.{Writes}
+use Rattle.open_writing.specs.declared.Opened as Code
 use Rattle.open.specs.Opening.{Open}
-use Rattle.open.specs.declared.Opened as Code
-use Rattle.open.specs.declared.Packet.{Packet}
 use Rattle.open.specs.declared.Opening.the-variants as Opening
 
 module _ (k : Keys) (d : List ℕ) (e : ℕ) (before : List ℕ) where

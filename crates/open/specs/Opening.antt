@@ -9,7 +9,7 @@ use Rattle.packets.specs.Protection.{Keys}
 use Rattle.packets.specs.Packet.{Opened, opened}
 use Rattle.packets.specs.Effects.{output, after}
 use Rattle.packets.specs.AesGcm.{aesGcm}
-use Rattle.open.specs.declared.Opened as Code
+use Rattle.open_writing.specs.declared.Opened as Code
 use Rattle.open.specs.declared.Opening.{Opening}
 use Rattle.open.specs.declared.Opening.the-variants as Opening
 

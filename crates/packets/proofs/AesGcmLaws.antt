@@ -1,5 +1,6 @@
 -- The suite that the code uses meets the laws that sealing, opening and the receiver rest on.
-use Rattle.gcm.proofs.Laws.{stream-length, stream-twice, tag-length}
+use Rattle.gcm_counter.proofs.Laws.{stream-length, stream-twice}
+use Rattle.gcm.proofs.Laws.{tag-length}
 use Rattle.packets.specs.Suite.{Laws}
 use Rattle.packets.specs.AesGcm.{aesGcm}
 

@@ -14,11 +14,13 @@ use Rattle.octets.proofs.Outcome.{apart, given-same}
 use Rattle.octets.proofs.Parts.{part-length, part-taken}
 use Rattle.octets.proofs.Bytes.{part-bytes, drop-bytes, xor-bytes}
 use Rattle.octets.proofs.Numbers.{number-below}
-use Rattle.numbers.specs.Numbers.{numbers, window, decoded, recovered}
-use Rattle.wire.specs.Versions.{known}
-use Rattle.wire.specs.Header.{Header, header, leastLength, tagLength}
-use Rattle.numbers.proofs.Recovery.{recover-range, recover-given}
-use Rattle.wire.proofs.Headers.{header-there}
+use Rattle.numbers.specs.Numbers.{numbers, window}
+use Rattle.numbers_recovery.specs.Recovery.{decoded, recovered}
+use Rattle.versions.specs.Versions.{known}
+use Rattle.header_initial.specs.InitialHeader.{Header, header}
+use Rattle.header_fields.specs.Fields.{leastLength, tagLength}
+use Rattle.numbers_recovery.proofs.Recovery.{recover-range, recover-given}
+use Rattle.header_initial.proofs.InitialHeaders.{header-there}
 use Rattle.packets.specs.Suite.{Suite}
 use Rattle.packets.specs.Protection.{Keys, nonce, onFirst, onNumber, sampleOf}
 use Rattle.packets.specs.Packet.{maskOf, Opened, unprotected, opened}
@@ -185,6 +187,7 @@ module _ (suite : Suite) (k : Keys) (e : ℕ) (d : List ℕ) (room : ℕ) where
                       ← tagged,
                       whole,
                     )
+                    refl
 
                 pub open-tag : same (tagIn d at len) tag ≡ false → opened suite k e d room ≡ refused 11
                 open-tag differs = open-judged ∙ rw differs

@@ -14,13 +14,14 @@ use Rattle.octets.specs.Octets.{bytes, number, part}
 use Rattle.octets.proofs.Parts.{part-front}
 use Rattle.octets.proofs.Numbers.{byte-power, number-bytes}
 use Rattle.octets.proofs.Xor.{xor-twice, xor-undone}
-use Rattle.numbers.specs.Numbers.{numbers, decoded, Near}
-use Rattle.wire.specs.Versions.{version}
-use Rattle.wire.specs.Header.{limit}
-use Rattle.writing.specs.Written.{Plain, firstByte, fields, lengthOf, front, plainHeader}
-use Rattle.numbers.proofs.Recovery.{recovery}
-use Rattle.writing.proofs.Places.{At, past, part-at}
-use Rattle.writing.proofs.HeaderBack.{Written, numberAt, at-number, number-place, header-read}
+use Rattle.numbers.specs.Numbers.{numbers}
+use Rattle.numbers_recovery.specs.Recovery.{decoded, Near}
+use Rattle.versions.specs.Versions.{version}
+use Rattle.header_long.specs.LongHeader.{limit}
+use Rattle.header_writing.specs.Written.{Plain, firstByte, fields, lengthOf, front, plainHeader}
+use Rattle.numbers_recovery.proofs.Recovery.{recovery}
+use Rattle.header_writing.proofs.Places.{At, past, part-at}
+use Rattle.header_writing.proofs.HeaderBack.{Written, numberAt, at-number, number-place, header-read}
 use Rattle.packets.specs.Suite.{Suite, Laws}
 use Rattle.packets.specs.Protection.{Keys, nonce, onFirst, onNumber, sampleOf}
 use Rattle.packets.specs.Packet.{opened}
@@ -135,17 +136,17 @@ module _ (suite : Suite) (laws : Laws suite) (k : Keys) (p : Plain) where
         let n = p .numberLength in
         let l = length-append cipher tag in
         let whole : length (plainHeader v p) ≡ length (front v p) + n = length-append (front v p) short ∙ rw (short-length p) in
-        sample-behind (plainHeader v p ++ (cipher ++ tag)) (length (front v p)) n (cipher ++ tag) (made .short)
+        sample-behind (plainHeader v p ++ (cipher ++ tag)) (length (front v p)) n (cipher ++ tag) (made .plain .short)
         (drop-at (plainHeader v p) (cipher ++ tag) (length (front v p) + n) whole)
-        ∙ sym (sample-behind d (numberAt p) n (cipher ++ (tag ++ behind)) (made .short) (at-cipher .there)
+        ∙ sym (sample-behind d (numberAt p) n (cipher ++ (tag ++ behind)) (made .plain .short) (at-cipher .there)
         ∙ rw (← (append-assoc cipher tag behind))
-        (part-front (cipher ++ tag) behind (4 - n) 16 (omega (arith, made .enough, made .short, cipher-length, tag-length))))
+        (part-front (cipher ++ tag) behind (4 - n) 16 (omega (arith, made .plain .enough, made .plain .short, cipher-length, tag-length))))
 
     unmasked : Unmasked suite k d (numberAt p) mask (firstByte v p) (p .numberLength) short
     unmasked = record {
       its-mask = ap (suite .mask (k .hp)) sample-back;
       its-first = sym (ap (onFirst mask) (rw is) ∙ first-back mask (firstByte v p));
-      its-length = first-length v p (made .positive) (made .short);
+      its-length = first-length v p (made .plain .positive) (made .plain .short);
       its-number =
           sym (ap (onNumber mask) (part-at d (numberAt p) (p .numberLength) hidden (cipher ++ (tag ++ behind)) at-hidden hidden-length)
           ∙ number-back mask short);
@@ -168,7 +169,7 @@ module _ (suite : Suite) (laws : Laws suite) (k : Keys) (p : Plain) where
     number-again : (e : ℕ) → Near e (p .packetNumber) (p .numberLength) → p .packetNumber ≡ decoded e (number short) (p .numberLength)
     number-again e near =
         sym (rw (number-bytes (p .numberLength) (p .packetNumber), byte-power (p .numberLength))
-        (recovery e (p .packetNumber) (p .numberLength) (made .positive) near (made .small)))
+        (recovery e (p .packetNumber) (p .numberLength) (made .plain .positive) near (made .small)))
 
     -- the header is read
     written : length d ≤ limit → Written (λ w. eqb w v) v first p d (hidden ++ (cipher ++ (tag ++ behind)))
@@ -179,12 +180,12 @@ module _ (suite : Suite) (laws : Laws suite) (k : Keys) (p : Plain) where
         record {
           is = is;
           fits = fits;
-          form = first-form v p (made .positive) (made .short) mask;
+          form = first-form v p (made .plain .positive) (made .plain .short) mask;
           ours = made .ours;
           taken = eq-eqb v v refl;
-          short-destination = made .short-destination;
-          short-source = made .short-source;
-          enough = omega (arith, made .enough);
+          short-destination = made .plain .short-destination;
+          short-source = made .plain .short-source;
+          enough = omega (arith, made .plain .enough);
           all = omega (arith, hidden-length, cipher-length, tag-length);
         }
 
@@ -195,7 +196,7 @@ module _ (suite : Suite) (laws : Laws suite) (k : Keys) (p : Plain) where
         let all : numberAt p + lengthOf p ≡ length packet = omega (arith, number-place v p, packet-length suite k p laws, ap length (made .is)) in
         let tagged : tag ≡ suite .tag (k .key) once (plainIn d (numberAt p) (firstByte v p) short) (cipherIn d (numberAt p) (lengthOf p) (p .numberLength))
         = rw (plain-back, cipher-back) in
-        open-given suite k e d room fair (made .ours) read (omega arith) unmasked (first-reserved v p (made .positive) (made .short))
+        open-given suite k e d room fair (made .ours) read (omega arith) unmasked (first-reserved v p (made .plain .positive) (made .plain .short))
         (number-again e near) (made .small) tagged (equal-same (tagIn d (numberAt p) (lengthOf p)) tag tag-back)
         ∙ rw (plain-back, cipher-back, laws .stream-twice (k .key) once (p .payload), all)
 

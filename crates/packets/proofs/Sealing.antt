@@ -12,14 +12,17 @@ use Rattle.octets.specs.Octets.{bytes}
 use Rattle.octets.proofs.Outcome.{passed, stepped, both, given-same}
 use Rattle.octets.proofs.Numbers.{bytes-length}
 use Rattle.octets.proofs.Xor.{xor-length}
-use Rattle.wire.specs.Versions.{known}
-use Rattle.numbers.specs.Numbers.{Acknowledged, numbers, ahead, gap, shortened}
-use Rattle.wire.specs.Header.{limit, longestId}
-use Rattle.writing.specs.Written.{Plain, two, smallest, longFields, initialFields, firstByte, lengthOf, fields, front, plainHeader}
-use Rattle.writing.proofs.Forms.{two-bytes, long-length}
+use Rattle.versions.specs.Versions.{known}
+use Rattle.numbers_shortening.specs.Shortening.{Acknowledged, ahead, gap, shortened}
+use Rattle.numbers.specs.Numbers.{numbers}
+use Rattle.header_long.specs.LongHeader.{limit}
+use Rattle.header_fields.specs.Fields.{longestId}
+use Rattle.header_writing.specs.Written.{Plain, two, smallest, longFields, initialFields, firstByte, lengthOf, fields, front, plainHeader}
+use Rattle.header_writing.proofs.Forms.{two-bytes, long-length}
 use Rattle.packets.specs.Suite.{Suite, Laws}
 use Rattle.packets.specs.Protection.{Keys, nonce, onFirst, onNumber, sampleOf}
 use Rattle.packets.specs.Packet.{maskOf, bodyWith, bodyOf, packetOf, sealed}
+use Rattle.packets.specs.Sealable.{Sealable, sizeOf}
 
 -- ---- refusals in their order, then the packet
 module _ (suite : Suite) (k : Keys) (a : Acknowledged) (p : Plain) (room : ℕ) where
@@ -136,6 +139,9 @@ module _ (suite : Suite) (k : Keys) (p : Plain) where
           length-append (fields (k .version) p ++ onNumber mask short) (bodyOf suite k p),
         )
 
+    pub packet-size : length (packetOf suite k p) ≡ sizeOf p
+    packet-size = packet-length ∙ omega (arith, front-length (k .version) p)
+
 -- ---- what is known of a packet because the rules sealed it
 pub record Shortened (m n : ℕ) : Type 0 where
   pub small : m < numbers
@@ -154,18 +160,14 @@ shortening m a n t h =
 pub record Sealed (suite : Suite) (k : Keys) (p : Plain) (packet : List ℕ) : Type 0 where
   pub ours : known (k .version) ≡ true
   pub small : p .packetNumber < numbers
-  pub positive : 1 ≤ p .numberLength
-  pub short : p .numberLength ≤ 4
-  pub short-destination : length (p .destination) ≤ longestId
-  pub short-source : length (p .source) ≤ longestId
-  pub enough : 4 ≤ p .numberLength + length (p .payload)
+  pub plain : Sealable p
   pub fits : length (packetOf suite k p) ≤ limit
   pub is : packet ≡ packetOf suite k p
 
-pub sealing : (suite : Suite) (k : Keys) (a : Acknowledged) (p : Plain) (room : ℕ) (packet : List ℕ) → sealed suite k a p room ≡ given packet
-    → Sealed suite k p packet
+sealing-passes : (suite : Suite) (k : Keys) (a : Acknowledged) (p : Plain) (room : ℕ) (packet : List ℕ) → sealed suite k a p room ≡ given packet
+    → (Sealed suite k p packet) × (length (packetOf suite k p) ≤ room)
 unfolding sealed
-sealing suite k a p room packet h =
+sealing-passes suite k a p room packet h =
     let ours = passed _ _ _ h in
     let t = stepped (shortened (p .packetNumber) a (p .numberLength)) _ (ours .1) in
     let n = shortening (p .packetNumber) a (p .numberLength) (t .0) (t .1) in
@@ -173,15 +175,28 @@ sealing suite k a p room packet h =
     let two = both _ _ (ids .0) in
     let enough = passed _ _ _ (ids .1) in
     let fits = passed _ _ _ (enough .1) in
-    let last = passed 8 (leb (length (packetOf suite k p)) room) _ (fits .1) in
-    record {
-      ours = ours .0;
-      small = n .small;
-      positive = n .positive;
-      short = n .short;
-      short-destination = leb-true _ _ (two .0);
-      short-source = leb-true _ _ (two .1);
-      enough = leb-true _ _ (enough .0);
-      fits = leb-true _ _ (fits .0);
-      is = sym (given-same (last .1));
-    }
+    let last = passed 8 (leb (length (packetOf suite k p)) room) _ (fits .1) in (
+      record {
+        ours = ours .0;
+        small = n .small;
+        plain = record {
+          positive = n .positive;
+          short = n .short;
+          short-destination = leb-true _ _ (two .0);
+          short-source = leb-true _ _ (two .1);
+          enough = leb-true _ _ (enough .0);
+        };
+        fits = leb-true _ _ (fits .0);
+        is = sym (given-same (last .1));
+      },
+      leb-true _ _ (last .0),
+    )
+
+pub sealing : (suite : Suite) (k : Keys) (a : Acknowledged) (p : Plain) (room : ℕ) (packet : List ℕ) → sealed suite k a p room ≡ given packet
+    → Sealed suite k p packet
+sealing suite k a p room packet h = sealing-passes suite k a p room packet h .0
+
+-- there was room for it
+pub sealing-enters : (suite : Suite) (k : Keys) (a : Acknowledged) (p : Plain) (room : ℕ) (packet : List ℕ) → sealed suite k a p room ≡ given packet
+    → length (packetOf suite k p) ≤ room
+sealing-enters suite k a p room packet h = sealing-passes suite k a p room packet h .1

@@ -6,10 +6,14 @@ use lib.Dec.{leb, ltb, eqb}
 use lib.ListN.{length, getD, take, drop}
 use Rattle.octets.specs.Outcome.{Outcome, given, unless, _>>=_, _>>_}
 use Rattle.octets.specs.Octets.{bytes, number, part, same}
-use Rattle.numbers.specs.Numbers.{Acknowledged, numbers, shortened, decoded}
-use Rattle.wire.specs.Versions.{known}
-use Rattle.wire.specs.Header.{header, limit, longestId, tagLength}
-use Rattle.writing.specs.Written.{Plain, firstByte, fields, front, plainHeader}
+use Rattle.numbers_shortening.specs.Shortening.{Acknowledged, shortened}
+use Rattle.numbers.specs.Numbers.{numbers}
+use Rattle.numbers_recovery.specs.Recovery.{decoded}
+use Rattle.versions.specs.Versions.{known}
+use Rattle.header_initial.specs.InitialHeader.{header}
+use Rattle.header_long.specs.LongHeader.{limit}
+use Rattle.header_fields.specs.Fields.{longestId, tagLength}
+use Rattle.header_writing.specs.Written.{Plain, firstByte, fields, front, plainHeader}
 use Rattle.packets.specs.Suite.{Suite}
 use Rattle.packets.specs.Protection.{Keys, nonce, onFirst, onNumber, sampleOf}
 

@@ -4,7 +4,7 @@ use mathlib.Core.Path.{_≡_}
 use mathlib.Core.List.{List, _∷_, _++_}
 use lib.ListN.{getD}
 use Rattle.octets.specs.Octets.{part}
-use Rattle.wire.specs.Header.{tagLength}
+use Rattle.header_fields.specs.Fields.{tagLength}
 use Rattle.packets.specs.Suite.{Suite}
 use Rattle.packets.specs.Protection.{Keys, onFirst, onNumber, sampleOf}
 

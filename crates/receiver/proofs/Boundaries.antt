@@ -3,8 +3,9 @@ use mathlib.Core.Path.{refl}
 use Rattle.octets.specs.Octets.{bytes, number, xor}
 use Rattle.octets.specs.Text.{ascii}
 use Rattle.hkdf.specs.Hkdf.{tls13, info}
-use Rattle.numbers.specs.Integer.{integer}
-use Rattle.numbers.specs.Numbers.{coverable, ahead, gap, halvings, smallestLength, shortened, decoded, recovered}
+use Rattle.integers.specs.Integer.{integer}
+use Rattle.numbers_shortening.specs.Shortening.{coverable, ahead, gap, halvings, smallestLength, shortened}
+use Rattle.numbers_recovery.specs.Recovery.{decoded, recovered}
 use Rattle.packets.specs.Protection.{onFirst, onNumber, masked}
 use Rattle.receiver.specs.Boundaries.{Table}
 

@@ -9,11 +9,14 @@ use Rattle.octets.specs.Outcome.{given}
 use Rattle.octets.specs.Octets.{bytes, number, xor, same}
 use Rattle.octets.proofs.Numbers.{bytes-length}
 use Rattle.octets.proofs.Xor.{xor-length, xor-undone}
-use Rattle.wire.specs.Versions.{version1, draft2, known, version}
-use Rattle.numbers.specs.Integer.{integer}
-use Rattle.numbers.specs.Numbers.{nothing, coverable, ahead, gap, shortened, decoded}
-use Rattle.wire.specs.Header.{idAt, versionOf, judged, long, integerAt, fieldAt, restAt, header}
-use Rattle.writing.specs.Written.{two, smallest, longFields, initialFields, firstByte}
+use Rattle.versions.specs.Versions.{version1, draft2, known, version}
+use Rattle.integers.specs.Integer.{integer}
+use Rattle.numbers_shortening.specs.Shortening.{nothing, coverable, ahead, gap, shortened}
+use Rattle.numbers_recovery.specs.Recovery.{decoded}
+use Rattle.header_fields.specs.Fields.{idAt, integerAt, fieldAt, restAt}
+use Rattle.header_long.specs.LongHeader.{versionOf, judged, long}
+use Rattle.header_initial.specs.InitialHeader.{header}
+use Rattle.header_writing.specs.Written.{two, smallest, longFields, initialFields, firstByte}
 use Rattle.packets.specs.Suite.{Laws}
 use Rattle.packets.specs.Protection.{nonce, onFirst, onNumber, sampleOf}
 use Rattle.packets.specs.Packet.{bodyWith, bodyOf, packetOf, sealed, unprotected, opened}

@@ -6,8 +6,9 @@ use Rattle.octets.specs.Outcome.{refused, given}
 use Rattle.octets.specs.Octets.{bytes}
 use Rattle.octets.specs.Text.{ascii}
 use Rattle.hkdf.specs.Hkdf.{info}
-use Rattle.numbers.specs.Integer.{integer}
-use Rattle.numbers.specs.Numbers.{upTo, smallestLength, shortened, recovered}
+use Rattle.integers.specs.Integer.{integer}
+use Rattle.numbers_shortening.specs.Shortening.{upTo, smallestLength, shortened}
+use Rattle.numbers_recovery.specs.Recovery.{recovered}
 use Rattle.packets.specs.Protection.{masked}
 
 pub record Table : Type 0 where

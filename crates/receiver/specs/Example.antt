@@ -5,8 +5,8 @@ use mathlib.Core.List.{List, [], _∷_, _++_}
 use lib.ListN.{take, replicate}
 use Rattle.octets.specs.Outcome.{refused, given}
 use Rattle.octets.specs.Octets.{bytes, number, xor}
-use Rattle.numbers.specs.Numbers.{nothing}
-use Rattle.writing.specs.Written.{Plain}
+use Rattle.numbers_shortening.specs.Shortening.{nothing}
+use Rattle.header_writing.specs.Written.{Plain}
 use Rattle.packets.specs.Suite.{Suite}
 use Rattle.packets.specs.Protection.{Keys}
 use Rattle.packets.specs.Packet.{packetOf}

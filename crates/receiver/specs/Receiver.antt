@@ -5,9 +5,12 @@ use mathlib.Core.List.{List, [], _∷_, _++_}
 use lib.ListN.{length}
 use Rattle.octets.specs.Outcome.{Outcome, refused, given}
 use Rattle.octets.specs.Octets.{placed}
-use Rattle.numbers.specs.Numbers.{Acknowledged, numbers, Near}
-use Rattle.wire.specs.Header.{limit, tagLength}
-use Rattle.writing.specs.Written.{Plain}
+use Rattle.numbers_shortening.specs.Shortening.{Acknowledged}
+use Rattle.numbers.specs.Numbers.{numbers}
+use Rattle.numbers_recovery.specs.Recovery.{Near}
+use Rattle.header_long.specs.LongHeader.{limit}
+use Rattle.header_fields.specs.Fields.{tagLength}
+use Rattle.header_writing.specs.Written.{Plain}
 use Rattle.packets.specs.Suite.{Suite, Laws}
 use Rattle.packets.specs.Protection.{Keys}
 use Rattle.packets.specs.Packet.{sealed, Opened, opened}

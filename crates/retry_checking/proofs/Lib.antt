@@ -1,3 +1,2 @@
 pub mod Refusals
-pub mod WrittenBack
 pub mod OneAnswer

@@ -1,16 +1,15 @@
--- Each contract fixes its answer: any two that it permits are equal.
-use mathlib.Core.Path.{_≡_, refl, sym, _∙_}
+-- The contract fixes its answer: any two that it permits are equal.
+use mathlib.Core.Path.{_≡_, refl}
 use mathlib.Core.List.{List}
 use Prim.Native.Nat.{ℕ}
 use Rattle.octets.specs.Outcome.{Outcome, refused, given}
 use Rattle.octets.proofs.Outcome.{once}
-use Rattle.wire.proofs.OneAnswer.{placeBack}
+use Rattle.header_fields.proofs.OneAnswer.{placeBack}
 use Rattle.retry_checking.specs.Retry as Fields
-use Rattle.retry_checking.specs.Answers.{checkingAnswer, CheckRetry, RetryDestination, RetrySource, RetryToken}
+use Rattle.retry_checking.specs.Answers.{checkingAnswer, CheckRetry}
 use Rattle.retry_checking.specs.declared.Checking.{Checking}
 use Rattle.retry_checking.specs.declared.Checking.the-variants as Checking
 
--- ---- checking
 checkingBack : Outcome Fields.RetryFields → Checking
 checkingBack (refused n) = Checking.Refused n
 checkingBack (given f) = Checking.Checked (record {
@@ -27,12 +26,3 @@ checking-back (Checking.Checked f) = refl
 
 pub check-retry-once : {original d : List ℕ} {r r′ : Checking} → CheckRetry original d r → CheckRetry original d r′ → r ≡ r′
 check-retry-once a b = once checkingAnswer checkingBack checking-back (a .answer) (b .answer)
-
-pub retry-destination-once : {original d r r′ : List ℕ} → RetryDestination original d r → RetryDestination original d r′ → r ≡ r′
-retry-destination-once a b = a .answer ∙ sym (b .answer)
-
-pub retry-source-once : {original d r r′ : List ℕ} → RetrySource original d r → RetrySource original d r′ → r ≡ r′
-retry-source-once a b = a .answer ∙ sym (b .answer)
-
-pub retry-token-once : {original d r r′ : List ℕ} → RetryToken original d r → RetryToken original d r′ → r ≡ r′
-retry-token-once a b = a .answer ∙ sym (b .answer)

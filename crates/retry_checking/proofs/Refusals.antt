@@ -9,9 +9,10 @@ use lib.ListN.{length, take, drop}
 use borrow.Author.Tests.{le-leb, lt-leb, leb-true}
 use Rattle.octets.specs.Outcome.{refused, given}
 use Rattle.octets.proofs.Outcome.{passed, stepped, given-same}
-use Rattle.wire.specs.Header.{Place, Long, behind, longestId, long, tagLength}
-use Rattle.wire.proofs.Fields.{Within}
-use Rattle.wire.proofs.Headers.{long-there}
+use Rattle.header_fields.specs.Fields.{Place, behind, longestId, tagLength}
+use Rattle.header_long.specs.LongHeader.{Long, long}
+use Rattle.header_fields.proofs.Fields.{Within}
+use Rattle.header_long.proofs.LongHeaders.{long-there}
 use Rattle.octets.specs.Octets.{same}
 use Rattle.retry_tag.specs.Tag.{retryTag}
 use Rattle.retry_checking.specs.Retry.{RetryFields, tokenAt, retryChecked}

@@ -1,9 +1,9 @@
--- The code's answers as what they stand for, and what each entry point promises.
+-- The code's answers as what they stand for, and what checking promises.
 use Prim.Native.Nat.{ℕ}
 use mathlib.Core.Path.{_≡_}
 use mathlib.Core.List.{List}
 use Rattle.octets.specs.Outcome.{Outcome, refused, given}
-use Rattle.wire.specs.HeaderAnswers.{placeOf, handed}
+use Rattle.header_fields.specs.Answers.{placeOf}
 use Rattle.retry_checking.specs.Retry as Section17
 use Rattle.retry_checking.specs.Retry.{retryChecked}
 use Rattle.retry_checking.specs.declared.RetryFields.{RetryFields}
@@ -24,12 +24,3 @@ checkingAnswer (Checking.Checked f) = given (fieldsOf f)
 
 pub record CheckRetry (original datagram : List ℕ) (r : Checking) : Type 0 where
   pub answer : checkingAnswer r ≡ retryChecked original datagram
-
-pub record RetryDestination (original datagram r : List ℕ) : Type 0 where
-  pub answer : r ≡ handed (retryChecked original datagram) (λ f. f .destination) datagram
-
-pub record RetrySource (original datagram r : List ℕ) : Type 0 where
-  pub answer : r ≡ handed (retryChecked original datagram) (λ f. f .source) datagram
-
-pub record RetryToken (original datagram r : List ℕ) : Type 0 where
-  pub answer : r ≡ handed (retryChecked original datagram) (λ f. f .token) datagram

@@ -1,12 +1,13 @@
--- Retry packets, checked: RFC 9000 section 17.2.5 and RFC 9001 section 5.8, with document 01's order of refusals.
+-- Retry packets, checked: RFC 9000 section 17.2.5 and RFC 9001 section 5.8, in the order of docs/SCOPE.md, "Order of refusals".
 use Prim.Native.Nat.{ℕ, _-_}
 use mathlib.Core.List.{List}
 use mathlib.Core.Bool.{true}
 use lib.Dec.{leb}
 use lib.ListN.{length, take, drop}
 use Rattle.octets.specs.Outcome.{Outcome, given, unless, _>>=_, _>>_}
-use Rattle.wire.specs.Versions.{version}
-use Rattle.wire.specs.Header.{Place, behind, longestId, whole, long, tagLength}
+use Rattle.versions.specs.Versions.{version}
+use Rattle.header_fields.specs.Fields.{Place, behind, longestId, whole, tagLength}
+use Rattle.header_long.specs.LongHeader.{long}
 use Rattle.octets.specs.Octets.{same}
 use Rattle.retry_tag.specs.Tag.{retryTag}
 

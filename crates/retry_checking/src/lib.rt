@@ -1,23 +1,20 @@
 // Retry packets, checked: RFC 9000 section 17.2.5 and RFC 9001 section 5.8.
+use header_fields::Found;
+use header_fields::LONGEST_ID;
+use header_fields::Place;
+use header_fields::TAG_LENGTH;
+use header_long::Kind;
+use header_long::LongReading;
+use header_long::Wanted;
+use header_long::read_long;
 use octets::refusal;
 use retry_tag::tag_of;
-pub use retry_writing::Writing;
-pub use retry_writing::write_retry;
-use wire::header::Found;
-use wire::header::Kind;
-use wire::header::LONGEST_ID;
-use wire::header::LongReading;
-use wire::header::Place;
-use wire::header::TAG_LENGTH;
-use wire::header::Wanted;
-use wire::header::part_at;
-use wire::header::read_long;
 ghost use mathlib.Core.Path.{_≡_};
 ghost use Prim.Native.Nat.{_≤_};
 ghost use lib.ListN.{length};
-ghost use Rattle.wire.specs.HeaderAnswers.{foundAnswer};
+ghost use Rattle.header_fields.specs.Answers.{foundAnswer};
 ghost use Rattle.retry_checking.specs.Retry.{tokenAt};
-ghost use Rattle.retry_checking.specs.Answers.{CheckRetry, RetryDestination, RetrySource, RetryToken};
+ghost use Rattle.retry_checking.specs.Answers.{CheckRetry};
 
 // The version of a Retry that was checked, and where its parts stand.
 pub struct RetryFields {
@@ -68,7 +65,7 @@ pub fn check_retry(original: &[u8], datagram: &[u8]) -> Checking
     };
     let tag_at = token.at + token.len;
     let tag = tag_of(long.version, original, &datagram[..tag_at]);
-    if !gcm::tag::same_tag(&datagram[tag_at..], &tag) {
+    if !gcm::same_tag(&datagram[tag_at..], &tag) {
         return Checking::Refused(refusal::TAG);
     }
     Checking::Checked(RetryFields {
@@ -77,43 +74,4 @@ pub fn check_retry(original: &[u8], datagram: &[u8]) -> Checking
         source,
         token,
     })
-}
-
-// The destination ID of a Retry that is accepted, and nothing where checking refuses.
-pub fn retry_destination<'a>(original: &[u8], datagram: &'a [u8]) -> &'a [u8]
-    ensures { λ r. ⌜ RetryDestination (now (original .entry)) (now (datagram .entry)) (now r) ⌝ }
-{
-    match check_retry(original, datagram) {
-        Checking::Refused(_) => &datagram[..0],
-        Checking::Checked(fields) => {
-            let place = fields.destination;
-            part_at(datagram, place)
-        }
-    }
-}
-
-// The source ID of a Retry that is accepted, and nothing where checking refuses.
-pub fn retry_source<'a>(original: &[u8], datagram: &'a [u8]) -> &'a [u8]
-    ensures { λ r. ⌜ RetrySource (now (original .entry)) (now (datagram .entry)) (now r) ⌝ }
-{
-    match check_retry(original, datagram) {
-        Checking::Refused(_) => &datagram[..0],
-        Checking::Checked(fields) => {
-            let place = fields.source;
-            part_at(datagram, place)
-        }
-    }
-}
-
-// The token of a Retry that is accepted, and nothing where checking refuses.
-pub fn retry_token<'a>(original: &[u8], datagram: &'a [u8]) -> &'a [u8]
-    ensures { λ r. ⌜ RetryToken (now (original .entry)) (now (datagram .entry)) (now r) ⌝ }
-{
-    match check_retry(original, datagram) {
-        Checking::Refused(_) => &datagram[..0],
-        Checking::Checked(fields) => {
-            let place = fields.token;
-            part_at(datagram, place)
-        }
-    }
 }

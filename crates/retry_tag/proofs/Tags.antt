@@ -7,8 +7,8 @@ use lib.ListN.{length, length-append}
 use Rattle.aes_schedule.specs.Expansion.{expansion}
 use Rattle.gcm.specs.Gcm.{hashKey, tagBy, tag}
 use Rattle.gcm.proofs.Laws.{tag-length}
-use Rattle.wire.specs.Versions.{version}
-use Rattle.wire.specs.Header.{tagLength}
+use Rattle.versions.specs.Versions.{version}
+use Rattle.header_fields.specs.Fields.{tagLength}
 use Rattle.retry_tag.specs.Tag.{pseudoPacket, retryTag, tagged}
 
 pub retry-tag-length : (v : ℕ) (original packet : List ℕ) → length (retryTag v original packet) ≡ tagLength

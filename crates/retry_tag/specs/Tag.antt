@@ -1,8 +1,8 @@
 -- The tag of a Retry: RFC 9001 section 5.8.
 use Prim.Native.Nat.{ℕ}
 use mathlib.Core.List.{List, [], _++_}
-use Rattle.wire.specs.Versions.{version}
-use Rattle.writing.specs.Written.{withLength}
+use Rattle.versions.specs.Versions.{version}
+use Rattle.header_writing.specs.Written.{withLength}
 use Rattle.gcm.specs.Gcm.{tag}
 
 -- the original connection ID behind its length byte, and then the Retry up to its tag

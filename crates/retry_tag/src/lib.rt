@@ -1,9 +1,9 @@
 // The tag of a Retry: RFC 9001 section 5.8.
-use wire::version;
 ghost use mathlib.Core.Path.{_≡_};
 ghost use Prim.Native.Nat.{_≤_};
 ghost use lib.ListN.{length};
-ghost use Rattle.wire.specs.Header.{limit, longestId};
+ghost use Rattle.header_long.specs.LongHeader.{limit};
+ghost use Rattle.header_fields.specs.Fields.{longestId};
 ghost use Rattle.retry_tag.specs.Tag.{retryTag};
 
 // RFC 9001 section 5.8: the tag of a Retry, from its bytes up to it and the original connection ID.
@@ -11,11 +11,11 @@ pub fn tag_of(number: u32, original: &[u8], packet: &[u8]) -> [u8; 16]
     requires { ⌜ (length (now original) ≤ longestId) × (length (now packet) ≤ limit) ⌝ }
     ensures { λ r. ⌜ r ≡ retryTag number (now (original .entry)) (now (packet .entry)) ⌝ }
 {
-    let key = version::retry_key(number);
-    let nonce = version::retry_nonce(number);
+    let key = versions::retry_key(number);
+    let nonce = versions::retry_nonce(number);
     let schedule = aes_schedule::expand_key(&key);
-    let hash_key = gcm::tag::hash_key(&schedule);
+    let hash_key = gcm::hash_key(&schedule);
     let count = original.len() as u8;
     let length = [count];
-    gcm::tag::make_tag(&schedule, hash_key, &nonce, &length, original, packet, b"")
+    gcm::make_tag(&schedule, hash_key, &nonce, &length, original, packet, b"")
 }

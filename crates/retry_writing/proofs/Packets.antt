@@ -6,10 +6,10 @@ use native.Mathlib.Omega.{arith}
 use lib.ListN.{length, take, length-append}
 use Rattle.octets.specs.Octets.{laid, Begins}
 use Rattle.octets.proofs.Buffers.{begun-front, goes-on}
-use Rattle.wire.specs.Versions.{version}
-use Rattle.writing.specs.Written.{longFirst, longFields}
-use Rattle.writing.proofs.Forms.{long-length}
-use Rattle.wire.specs.Header.{tagLength}
+use Rattle.versions.specs.Versions.{version}
+use Rattle.header_writing.specs.Written.{longFirst, longFields}
+use Rattle.header_writing.proofs.Forms.{long-length}
+use Rattle.header_fields.specs.Fields.{tagLength}
 use Rattle.retry_tag.specs.Tag.{retryTag, tagged}
 use Rattle.retry_tag.proofs.Tags.{tagged-length}
 use Rattle.retry_writing.specs.Written.{untagged}

@@ -8,8 +8,9 @@ use lib.ListN.{length}
 use borrow.Author.Tests.{le-leb, lt-leb, leb-true}
 use Rattle.octets.specs.Outcome.{refused, given, unless, _>>_}
 use Rattle.octets.proofs.Outcome.{passed, given-same}
-use Rattle.wire.specs.Versions.{known}
-use Rattle.wire.specs.Header.{limit, longestId}
+use Rattle.versions.specs.Versions.{known}
+use Rattle.header_long.specs.LongHeader.{limit}
+use Rattle.header_fields.specs.Fields.{longestId}
 use Rattle.retry_tag.specs.Tag.{tagged}
 use Rattle.retry_writing.specs.Written.{untagged, retryWritten}
 use Rattle.retry_writing.specs.Answers.{sizeOf}

@@ -5,7 +5,8 @@ use mathlib.Core.List.{List}
 use lib.ListN.{length}
 use Rattle.octets.specs.Outcome.{Outcome, refused, given}
 use Rattle.octets.specs.Octets.{placed, lengthGiven}
-use Rattle.wire.specs.Header.{limit, longestId, tagLength}
+use Rattle.header_long.specs.LongHeader.{limit}
+use Rattle.header_fields.specs.Fields.{longestId, tagLength}
 use Rattle.retry_writing.specs.Written.{retryWritten}
 use Rattle.retry_writing.specs.declared.Writing.{Writing}
 use Rattle.retry_writing.specs.declared.Writing.the-variants as Writing

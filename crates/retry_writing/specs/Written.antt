@@ -1,12 +1,13 @@
--- Retry packets, written: RFC 9000 section 17.2.5, with document 01's order of refusals.
+-- Retry packets, written: RFC 9000 section 17.2.5, in the order of docs/SCOPE.md, "Order of refusals".
 use Prim.Native.Nat.{ℕ, _%_}
 use mathlib.Core.List.{List, _∷_, _++_}
 use lib.Dec.{leb}
 use lib.ListN.{length}
 use Rattle.octets.specs.Outcome.{Outcome, given, unless, _>>=_, _>>_}
-use Rattle.wire.specs.Versions.{known, version}
-use Rattle.wire.specs.Header.{limit, longestId}
-use Rattle.writing.specs.Written.{longFirst, longFields}
+use Rattle.versions.specs.Versions.{known, version}
+use Rattle.header_long.specs.LongHeader.{limit}
+use Rattle.header_fields.specs.Fields.{longestId}
+use Rattle.header_writing.specs.Written.{longFirst, longFields}
 use Rattle.retry_tag.specs.Tag.{tagged}
 
 -- ---- RFC 9000 section 17.2.5: the packet up to its tag

@@ -1,12 +1,9 @@
 // Retry packets, written: RFC 9000 section 17.2.5.
+use header_fields::LONGEST_ID;
+use header_fields::TAG_LENGTH;
+use header_long::LIMIT;
 use octets::refusal;
 use retry_tag::tag_of;
-use wire::header::LIMIT;
-use wire::header::LONGEST_ID;
-use wire::header::TAG_LENGTH;
-use wire::version;
-ghost use mathlib.Core.Path.{_≡_};
-ghost use lib.ListN.{length};
 ghost use Rattle.octets.specs.Octets.{Begins};
 ghost use Rattle.retry_tag.specs.Tag.{tagged};
 ghost use Rattle.retry_writing.specs.Written.{untagged};
@@ -31,8 +28,8 @@ fn write_packet(
     requires { ⌜ Writable (now original) (now destination) (now source) (now token) (now buffer) ⌝ }
     ensures { λ r. ⌜ Begins (tagged number (now (original .entry)) (untagged number (now (destination .entry)) (now (source .entry)) (now (token .entry)) «low_bits»)) (now (buffer .entry)) (now (buffer .exit)) r ⌝ }
 {
-    let first = 0xc0 + version::retry_type(number) * 16 + (low_bits % 16) as u8;
-    let token_at = writing::write_long(buffer, first, number, destination, source);
+    let first = 0xc0 + versions::retry_type(number) * 16 + (low_bits % 16) as u8;
+    let token_at = header_writing::write_long(buffer, first, number, destination, source);
     octets::copy(buffer, token_at, token);
     let tag_at = token_at + token.len();
     let tag = tag_of(number, original, &buffer[..tag_at]);
@@ -52,7 +49,7 @@ pub fn write_retry(
 ) -> Writing
     ensures { λ r. ⌜ WriteRetry version (now (original .entry)) (now (destination .entry)) (now (source .entry)) (now (token .entry)) «low_bits» (now (out .entry)) r (now (out .exit)) ⌝ }
 {
-    if !version::is_known(version) {
+    if !versions::is_known(version) {
         return Writing::Refused(refusal::VERSION);
     }
     if LONGEST_ID < original.len() {

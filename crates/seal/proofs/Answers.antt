@@ -1,47 +1,57 @@
--- An outcome of sealing as the code's answer and the buffer.
-use Prim.Native.Nat.{ℕ, _+_, _≤_, _<_}
-use mathlib.Core.Path.{_≡_, sym, _∙_}
-use mathlib.Core.Bool.{true}
+-- What judging answers, as sealing's answer and the buffer.
+use Prim.Native.Nat.{ℕ}
+use mathlib.Core.Path.{_≡_, refl, sym, ap, _∙_}
 use mathlib.Core.List.{List}
-use native.Mathlib.Omega.{arith}
 use lib.ListN.{length}
-use Rattle.octets.specs.Outcome.{refused, given}
-use Rattle.octets.specs.Octets.{begun}
-use Rattle.octets.proofs.Buffers.{refused-placed, given-placed}
-use Rattle.wire.specs.Versions.{known}
-use Rattle.numbers.specs.Numbers.{Acknowledged, shortened}
-use Rattle.wire.specs.Header.{limit, longestId}
-use Rattle.writing.specs.Written.{Plain}
+use Rattle.octets.specs.Outcome.{Outcome, refused, given}
+use Rattle.octets.specs.Octets.{begun, placed, lengthGiven}
+use Rattle.octets.proofs.Outcome.{apart}
+use Rattle.numbers_shortening.specs.Shortening.{Acknowledged}
+use Rattle.header_writing.specs.Written.{Plain}
 use Rattle.packets.specs.Protection.{Keys}
 use Rattle.packets.specs.Packet.{packetOf, sealed}
+use Rattle.packets.specs.Sealable.{sizeOf, Writable}
 use Rattle.packets.specs.AesGcm.{aesGcm}
 use Rattle.packets.proofs.AesGcmLaws.{aes-gcm-laws}
-use Rattle.packets.proofs.Sealing.{seal-size, seal-room, seal-given, packet-length, front-length}
-use Rattle.seal.specs.declared.Sealing.the-variants as Sealing
-use Rattle.seal.specs.Sealing.{sizeOf, Seal}
+use Rattle.packets.proofs.Sealing.{Sealed, sealing, sealing-enters, packet-size}
+use Rattle.seal_judging.specs.declared.Sealing.{Sealing}
+use Rattle.seal_judging.specs.declared.Sealing.the-variants as Sealing
+use Rattle.seal_judging.specs.Judging.{sealingAnswer}
+use Rattle.seal.specs.Sealing.{Seal}
 
-module _ (k : Keys) (a : Acknowledged) (p : Plain) (out : List ℕ) where
+-- a length is given of what is given alone
+stays : (o : Outcome (List ℕ)) {n : ℕ} (before : List ℕ) → refused n ≡ lengthGiven o → before ≡ placed o before
+stays (refused m) before h = refl
+stays (given s) before h = absurd (apart h)
+
+is-given : (o : Outcome (List ℕ)) {n : ℕ} → given n ≡ lengthGiven o → (s : List ℕ) × (o ≡ given s)
+is-given (refused m) h = absurd (apart (sym h))
+is-given (given s) h = (s, refl)
+
+module _ (k : Keys) (a : Acknowledged) (p : Plain) (out : List ℕ) {r : Sealing} (judged : sealingAnswer r ≡ lengthGiven (sealed aesGcm k a p (length out))) where
   -- refused, and the buffer as it was
-  pub refuse : {n : ℕ} → sealed aesGcm k a p (length out) ≡ refused n → Seal k a p out (Sealing.Refused n) out
-  refuse is = let stays = refused-placed out is in record { answer = stays .0; output = stays .1 }
+  pub refuses : {n : ℕ} → r ≡ Sealing.Refused n → Seal k a p out r out
+  refuses is =
+      record { answer = judged; output = stays (sealed aesGcm k a p (length out)) out (ap sealingAnswer (sym is) ∙ judged) }
 
-  -- the packet's size, by its parts' sizes
-  size : length (packetOf aesGcm k p) ≡ sizeOf p
-  size = packet-length aesGcm k p aes-gcm-laws ∙ omega (arith, front-length (k .version) p)
+  module _ {n : ℕ} (is : r ≡ Sealing.Written n) where
+    whole : (s : List ℕ) × (sealed aesGcm k a p (length out) ≡ given s)
+    whole = is-given (sealed aesGcm k a p (length out)) (ap sealingAnswer (sym is) ∙ judged)
 
-  -- all is judged but size and room
-  module _ (ours : known (k .version) ≡ true) {t : ℕ} (short : given t ≡ shortened (p .packetNumber) a (p .numberLength))
-      (d : length (p .destination) ≤ longestId) (s : length (p .source) ≤ longestId) (enough : 4 ≤ p .numberLength + length (p .payload)) where
-    pub refuse-size : limit < sizeOf p → Seal k a p out (Sealing.Refused 1) out
-    refuse-size h = refuse (seal-size aesGcm k a p (length out) ours short d s enough (rw size h))
+    made : Sealed aesGcm k p (whole .0)
+    made = sealing aesGcm k a p (length out) (whole .0) (whole .1)
 
-    module _ (fits : sizeOf p ≤ limit) where
-      pub refuse-room : length out < sizeOf p → Seal k a p out (Sealing.Refused 8) out
-      refuse-room h = refuse (seal-room aesGcm k a p (length out) ours short d s enough (rw size fits) (rw size h))
+    size : length (packetOf aesGcm k p) ≡ sizeOf p
+    size = packet-size aesGcm k p aes-gcm-laws
 
-      -- the packet, at the buffer's start
-      pub written : sizeOf p ≤ length out → {after : List ℕ} {n : ℕ} → n ≡ sizeOf p → after ≡ begun (packetOf aesGcm k p) out
-          → Seal k a p out (Sealing.Written n) after
-      written h counts holds =
-          let stands = given-placed (seal-given aesGcm k a p (length out) ours short d s enough (rw size fits) (rw size h)) (record { holds = holds; ends = counts ∙ sym size }) in
-          record { answer = stands .0; output = stands .1 }
+    -- the packet can be written
+    pub writable : Writable p (length out)
+    writable = record {
+      sealable = made .plain;
+      size = rw (← size) (made .fits);
+      enters = rw (← size) (sealing-enters aesGcm k a p (length out) (whole .0) (whole .1));
+    }
+
+    -- and so it stands at the buffer's start
+    pub writes : {after : List ℕ} → after ≡ begun (packetOf aesGcm k p) out → Seal k a p out r after
+    writes holds = record { answer = judged; output = holds ∙ rw (whole .1, made .is) }

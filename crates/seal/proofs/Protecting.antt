@@ -9,17 +9,12 @@ use Rattle.octets.specs.Octets.{bytes, part, laid, begun}
 use Rattle.octets.proofs.Parts.{part-front, regroup}
 use Rattle.octets.proofs.Buffers.{begun-front, goes-on}
 use Rattle.aes128.specs.Cipher.{cipher}
-use Rattle.writing.specs.Written.{Plain, smallest, initialFields, firstByte, fields, front, plainHeader}
+use Rattle.header_writing.specs.Written.{Plain, firstByte, fields, front, plainHeader}
 use Rattle.packets.specs.Protection.{Keys, nonce, onFirst, onNumber, sampleOf, masked}
 use Rattle.packets.specs.Packet.{bodyWith, bodyOf, packetOf}
 use Rattle.packets.specs.AesGcm.{aesGcm}
 use Rattle.packets.proofs.AesGcmLaws.{aes-gcm-laws}
-use Rattle.packets.proofs.Sealing.{initial-length, body-length, packet-length, short-length, masked-length}
-
--- where the fields before the number end, whatever Length they tell
-pub fields-end : (v counted place : ℕ) (destination source token : List ℕ) → place ≡ suc (length (initialFields v destination source token counted))
-    → place ≡ 9 + length destination + length source + length (smallest (length token)) + length token
-fields-end v counted place destination source token is = omega (arith, is, initial-length v destination source token counted)
+use Rattle.packets.proofs.Sealing.{body-length, packet-length, short-length, masked-length}
 
 -- as many elements laid over others leave what stands before and behind them
 relaid : (a b b′ c : List ℕ) (at : ℕ) → at ≡ length a → length b′ ≡ length b → laid (a ++ (b ++ c)) at b′ ≡ a ++ b′ ++ c

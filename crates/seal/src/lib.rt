@@ -1,101 +1,21 @@
 // Sealing: RFC 9001 section 5, as document 01 has it written.
-use numbers::packet::Acknowledged;
-use numbers::packet::FullPn;
-use numbers::packet::Shortened;
-use numbers::packet::shorten;
-use octets::refusal;
+use numbers::FullPn;
+use numbers_shortening::Acknowledged;
 use packets::Keys;
-use wire::header::LIMIT;
-use wire::header::LONGEST_ID;
-use wire::header::TAG_LENGTH;
+use seal_body::write_body;
+use seal_header::write_header;
+use seal_judging::Sealing;
+use seal_judging::judge;
+use seal_masking::protect;
 ghost use mathlib.Core.Path.{_≡_};
-ghost use Prim.Native.Nat.{_+_, _-_, _<_, _≤_};
-ghost use lib.ListN.{length, take};
-ghost use Rattle.octets.specs.Octets.{begun, laid, part};
-ghost use Rattle.gcm.specs.Gcm.{tagBy, hashKey};
-ghost use Rattle.wire.specs.Header.{limit};
-ghost use Rattle.writing.specs.Written.{smallest};
-ghost use Rattle.numbers.specs.Answers.{acknowledgedOf};
+ghost use lib.ListN.{length};
+ghost use Rattle.octets.specs.Octets.{begun};
+ghost use Rattle.numbers_shortening.specs.Answers.{acknowledgedOf};
 ghost use Rattle.packets.specs.KeyRecord.{keysOf};
-ghost use Rattle.packets.specs.Protection.{masked};
-ghost use Rattle.packets.specs.Packet.{bodyWith, packetOf};
+ghost use Rattle.packets.specs.Packet.{packetOf};
+ghost use Rattle.packets.specs.Sealable.{Writable};
 ghost use Rattle.packets.specs.AesGcm.{aesGcm};
-ghost use Rattle.seal.specs.Sealing.{sizeOf, Writable, HeaderWritten, Seal};
-
-// What sealing answers: a refusal's number, or the packet's length.
-pub enum Sealing {
-    Refused(u8),
-    Written(usize),
-}
-
-// The plain header at the buffer's start (RFC 9000 section 17.2.2); where its number stands.
-fn write_header(
-    version: u32,
-    number: u64,
-    count: usize,
-    destination: &[u8],
-    source: &[u8],
-    token: &[u8],
-    payload: &[u8],
-    buffer: &mut [u8],
-) -> usize
-    requires { ⌜ Writable (record { destination = now destination; source = now source; token = now token; payload = now payload; packetNumber = number; numberLength = count }) (now buffer) ⌝ }
-    ensures { λ r. ⌜ HeaderWritten version (record { destination = now (destination .entry); source = now (source .entry); token = now (token .entry); payload = now (payload .entry); packetNumber = number; numberLength = count }) (now (buffer .entry)) (now (buffer .exit)) r ⌝ }
-{
-    let first = 0xc0 + wire::version::initial_type(version) * 16 + (count - 1) as u8;
-    let counted = count + payload.len() + TAG_LENGTH;
-    let place = writing::write_initial(buffer, first, version, destination, source, token, counted);
-    octets::store(buffer, place, count, number);
-    place
-}
-
-// Section 5.3: the tag over a header that ends at a place, and the ciphertext from there to an end.
-fn tag_over(
-    schedule: &[u8; 176],
-    nonce: &[u8; 12],
-    packet: &[u8],
-    at: usize,
-    end: usize,
-) -> [u8; 16]
-    requires { ⌜ (at ≤ end) × (end ≤ length (now packet)) × (end ≤ limit) ⌝ }
-    ensures { λ r. ⌜ r ≡ tagBy (now (schedule .entry)) (hashKey (now (schedule .entry))) (now (nonce .entry)) (take at (now (packet .entry))) (part (now (packet .entry)) at (end - at)) ⌝ }
-{
-    let hash_key = gcm::tag::hash_key(schedule);
-    gcm::tag::make_tag(
-        schedule,
-        hash_key,
-        nonce,
-        &packet[..at],
-        b"",
-        b"",
-        &packet[at..end],
-    )
-}
-
-// Section 5.3: the payload encrypted behind a header that stands at the buffer's start up to `at`, and the tag over both.
-fn write_body(key: &[u8; 16], nonce: &[u8; 12], payload: &[u8], buffer: &mut [u8], at: usize)
-    requires { ⌜ (at + length (now payload) + 16 ≤ length (now buffer)) × (at + length (now payload) ≤ limit) ⌝ }
-    ensures { λ _. ⌜ now (buffer .exit) ≡ laid (now (buffer .entry)) at (bodyWith aesGcm (now (key .entry)) (now (nonce .entry)) (take at (now (buffer .entry))) (now (payload .entry))) ⌝ }
-{
-    let schedule = aes_schedule::expand_key(key);
-    gcm::counter::crypt(&schedule, nonce, payload, buffer, at);
-    let end = at + payload.len();
-    let tag = tag_over(&schedule, nonce, buffer, at, end);
-    octets::copy(buffer, end, &tag);
-}
-
-// Section 5.4.1: the mask laid over the packet at the buffer's start, whose number stands in `count` bytes at a place.
-fn protect(mask: [u8; 16], place: usize, count: usize, buffer: &mut [u8])
-    requires { ⌜ (1 ≤ place) × (count ≤ 4) × (place + count ≤ length (now buffer)) ⌝ }
-    ensures { λ _. ⌜ now (buffer .exit) ≡ masked mask place count (now (buffer .entry)) ⌝ }
-{
-    let end = place + count;
-    let mut short = [0u8; 4];
-    octets::copy(&mut short, 0, &buffer[place..end]);
-    let first = buffer[0] ^ (mask[0] % 16);
-    octets::put(buffer, 0, first);
-    octets::copy_masked(buffer, place, &short[..count], &mask[1..]);
-}
+ghost use Rattle.seal.specs.Sealing.{Seal};
 
 // Sections 5.3 and 5.4: the packet, protected, at the buffer's start.
 fn write_packet(
@@ -108,7 +28,7 @@ fn write_packet(
     payload: &[u8],
     buffer: &mut [u8],
 )
-    requires { ⌜ Writable (record { destination = now destination; source = now source; token = now token; payload = now payload; packetNumber = number; numberLength = count }) (now buffer) ⌝ }
+    requires { ⌜ Writable (record { destination = now destination; source = now source; token = now token; payload = now payload; packetNumber = number; numberLength = count }) (length (now buffer)) ⌝ }
     ensures { λ _. ⌜ now (buffer .exit) ≡ begun (packetOf aesGcm (keysOf keys) (record { destination = now (destination .entry); source = now (source .entry); token = now (token .entry); payload = now (payload .entry); packetNumber = number; numberLength = count })) (now (buffer .entry)) ⌝ }
 {
     let key = keys.key;
@@ -130,19 +50,6 @@ fn write_packet(
     protect(mask, place, count, buffer);
 }
 
-// How long the packet is, where no part of it is over the limit.
-fn size_of(count: usize, destination: usize, source: usize, token: usize, payload: usize) -> usize
-    requires { ⌜ (count ≤ 4) × (destination ≤ limit) × (source ≤ limit) × (token ≤ limit) × (payload ≤ limit) ⌝ }
-    ensures { λ r. ⌜ r ≡ 9 + destination + source + length (smallest token) + token + (count + payload + 16) ⌝ }
-{
-    9
-        + destination
-        + source
-        + writing::smallest_form(token)
-        + token
-        + (count + payload + TAG_LENGTH)
-}
-
 // A packet sealed at the buffer's start, its number in `count` bytes; the answer is its length, and the bytes behind it stay.
 pub fn seal(
     keys: Keys,
@@ -157,40 +64,20 @@ pub fn seal(
 ) -> Sealing
     ensures { λ r. ⌜ Seal (keysOf keys) (acknowledgedOf acknowledged) (record { destination = now (destination .entry); source = now (source .entry); token = now (token .entry); payload = now (payload .entry); packetNumber = number .0; numberLength = count }) (now (out .entry)) r (now (out .exit)) ⌝ }
 {
-    if !wire::version::is_known(keys.version) {
-        return Sealing::Refused(refusal::VERSION);
-    }
-    match shorten(number, acknowledged, count) {
-        Shortened::Refused(why) => return Sealing::Refused(why),
-        Shortened::Short(_) => {}
-    }
-    if LONGEST_ID < destination.len() {
-        return Sealing::Refused(refusal::LONG_ID);
-    }
-    if LONGEST_ID < source.len() {
-        return Sealing::Refused(refusal::LONG_ID);
-    }
-    if count + payload.len() < 4 {
-        return Sealing::Refused(refusal::SHORT);
-    }
-    if LIMIT < token.len() {
-        return Sealing::Refused(refusal::SIZE);
-    }
-    if LIMIT < payload.len() {
-        return Sealing::Refused(refusal::SIZE);
-    }
-    let size = size_of(
+    let answer = judge(
+        keys,
+        number,
+        acknowledged,
         count,
-        destination.len(),
-        source.len(),
-        token.len(),
-        payload.len(),
+        destination,
+        source,
+        token,
+        payload,
+        out.len(),
     );
-    if LIMIT < size {
-        return Sealing::Refused(refusal::SIZE);
-    }
-    if out.len() < size {
-        return Sealing::Refused(refusal::ROOM);
+    match answer {
+        Sealing::Refused(_) => return answer,
+        Sealing::Written(_) => {}
     }
     write_packet(
         keys,
@@ -202,5 +89,5 @@ pub fn seal(
         payload,
         out,
     );
-    Sealing::Written(size)
+    answer
 }

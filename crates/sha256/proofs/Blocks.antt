@@ -7,8 +7,10 @@ use lib.ListN.{length, take, drop, length-append, length-drop, take-append-drop}
 use lib.Seq.{take-all, take-append-le, drop-append-le, length-take-le, drop-drop}
 use Rattle.octets.specs.Octets.{part}
 use Rattle.octets.proofs.Parts.{to-end}
-use Rattle.sha256.specs.Constants.{H⁰}
-use Rattle.sha256.specs.Sha256.{parsed, compressed, absorbed, padding, digest, finished, hash}
+use Rattle.sha256_constants.specs.Constants.{H⁰}
+use Rattle.sha256_schedule.specs.Schedule.{parsed}
+use Rattle.sha256_padding.specs.Padding.{padding}
+use Rattle.sha256.specs.Sha256.{compressed, absorbed, digest, finished, hash}
 
 absorbed-one : (h m : List ℕ) → 64 ≤ length m → absorbed h m ≡ absorbed (compressed h (take 64 m)) (drop 64 m)
 unfolding absorbed parsed
@@ -70,10 +72,10 @@ hash-at-once m =
     ap (λ (n : ℕ). digest (absorbed H⁰ (m ++ padding n))) all
 
 -- the whole blocks of a message, and then its tail with the padding
-pub finished-is : (h v r m : List ℕ) (n at : ℕ) → at ≡ length m / 64 * 64 → v ≡ absorbed h m → r ≡ absorbed v (part m at (length m - at) ++ padding (n + length m))
-    → digest r ≡ finished h n m
+pub finished-is : (h v r m : List ℕ) (n at total : ℕ) → v ≡ absorbed h m → r ≡ absorbed v (part m at (length m - at) ++ padding total)
+    → at ≡ length m / 64 * 64 → total ≡ n + length m → digest r ≡ finished h n m
 unfolding finished
-finished-is h v r m n at e ev er =
+finished-is h v r m n at total ev er e all =
     let inside : at ≤ length m = omega arith in
     let count : length (take at m) ≡ 64 * (length m / 64) = length-take-le at m inside ∙ omega arith in
     let tail : length (drop at m) < 64 = omega (arith, length-drop at m) in
@@ -85,6 +87,7 @@ finished-is h v r m n at e ev er =
     ∙ absorbed-none (absorbed h (take at m)) (drop at m) tail in
     ap digest
     (er
+    ∙ ap (λ (k : ℕ). absorbed v (part m at (length m - at) ++ padding k)) all
     ∙ ap₂ (λ (x y : List ℕ). absorbed x (y ++ p)) (ev ∙ front) rest
     ∙ sym (absorbed-append (length m / 64) h (take at m) (drop at m ++ p) count)
     ∙ ap (absorbed h) (sym (append-assoc (take at m) (drop at m) p) ∙ ap (λ (x : List ℕ). x ++ p) (take-append-drop at m)))

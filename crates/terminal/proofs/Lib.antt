@@ -1,4 +1,2 @@
-pub mod Values
-pub mod Pairs
-pub mod Hex
-pub mod Reading
+pub mod Separators
+pub mod Blanks

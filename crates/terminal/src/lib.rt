@@ -1,10 +1,8 @@
-// Text at a terminal: what programs of this repository print, the words, hex and numbers that they are given, and files read by lines.
-pub mod digits;
+// Text at a terminal: what programs of this repository print, the words that they are given, and files read by lines.
 pub mod lines;
 pub mod print;
 pub mod words;
 
-pub use digits::decode;
 pub use print::say;
 pub use print::say_hex;
 pub use print::say_left;

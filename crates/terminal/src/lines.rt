@@ -1,5 +1,7 @@
 // A file read by lines, however long it is, through a chunk that the caller lends.
+ghost use mathlib.Core.Path.{_≡_};
 ghost use Rattle.io.specs.Counts.{Counts};
+ghost use Rattle.terminal.specs.Blanks.{unblanked, zeroed};
 
 // A file that is being read: its descriptor, and the part of the chunk that is still to be taken.
 pub struct Source {
@@ -31,7 +33,9 @@ pub struct Line {
 }
 
 // A file from its start on.
-pub fn from_start(file: i32) -> Source {
+pub fn from_start(file: i32) -> Source
+    ensures { λ r. ⌜ (r .at ≡ 0) × (r .end ≡ 0) ⌝ }
+{
     Source {
         file,
         at: 0,
@@ -144,7 +148,9 @@ pub fn read_line(start: Source, chunk: &mut [u8], line: &mut [u8]) -> Line
 }
 
 // Each character of a text that is a blank, a tab or a carriage return becomes a zero.
-pub fn blanks_to_zeros(text: &mut [u8]) {
+pub fn blanks_to_zeros(text: &mut [u8])
+    ensures { λ _. ⌜ now (text .exit) ≡ zeroed (now (text .entry)) ⌝ }
+{
     let mut i: usize = 0;
     while i < text.len() {
         text[i] = without_blank(text[i]);
@@ -152,9 +158,18 @@ pub fn blanks_to_zeros(text: &mut [u8]) {
     }
 }
 
-fn without_blank(character: u8) -> u8 {
-    match character {
-        b' ' | b'\t' | b'\r' => 0,
-        _ => character,
+// A zero for a blank, a tab or a carriage return, and any other character as it is.
+fn without_blank(character: u8) -> u8
+    ensures { λ r. ⌜ r ≡ unblanked character ⌝ }
+{
+    if character == b' ' {
+        return 0;
     }
+    if character == b'\t' {
+        return 0;
+    }
+    if character == b'\r' {
+        return 0;
+    }
+    character
 }

@@ -1,5 +1,5 @@
 // What is printed: text, bytes in hex, numbers in decimal and hex.
-use crate::digits::encode;
+use digits_writing::encode;
 use libc::STDOUT_FILENO;
 ghost use mathlib.Core.Path.{_≡_};
 ghost use Prim.Native.Nat.{_-_, _<_, _≤_};
@@ -47,7 +47,7 @@ pub fn say_wide(number: u64, width: usize) {
 }
 
 // So many blanks.
-pub fn say_blanks(count: usize) {
+fn say_blanks(count: usize) {
     let mut left = count;
     while 0 < left {
         say(b" ");

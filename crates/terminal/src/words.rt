@@ -3,6 +3,7 @@ ghost use mathlib.Core.Path.{_≡_};
 ghost use Prim.Native.Nat.{_≤_};
 ghost use lib.ListN.{length};
 ghost use Rattle.octets.specs.Octets as Octets;
+ghost use Rattle.terminal.specs.Words.{endAt, pastAt, wordAt, wordOf, startsAt, wordCount};
 
 // Whether two texts are the same.
 pub fn same(a: &[u8], b: &[u8]) -> bool
@@ -24,7 +25,7 @@ pub fn same(a: &[u8], b: &[u8]) -> bool
 // From a place on, where a character stands that is no separator, or the end.
 fn past_separators(text: &[u8], start: usize, separator: u8) -> usize
     requires { ⌜ start ≤ length (now text) ⌝ }
-    ensures { λ r. ⌜ (start ≤ r) × (r ≤ length (now (text .entry))) ⌝ }
+    ensures { λ r. ⌜ (start ≤ r) × (r ≤ length (now (text .entry))) × (r ≡ pastAt separator (now (text .entry)) start) ⌝ }
 {
     let mut at = start;
     while at < text.len() {
@@ -39,7 +40,7 @@ fn past_separators(text: &[u8], start: usize, separator: u8) -> usize
 // From a place on, where a separator stands, or the end.
 pub fn next_separator(text: &[u8], start: usize, separator: u8) -> usize
     requires { ⌜ start ≤ length (now text) ⌝ }
-    ensures { λ r. ⌜ (start ≤ r) × (r ≤ length (now (text .entry))) ⌝ }
+    ensures { λ r. ⌜ (start ≤ r) × (r ≤ length (now (text .entry))) × (r ≡ endAt separator (now (text .entry)) start) ⌝ }
 {
     let mut at = start;
     while at < text.len() {
@@ -53,7 +54,7 @@ pub fn next_separator(text: &[u8], start: usize, separator: u8) -> usize
 
 // Where the word of an index starts, counted from 0, or the end where there are fewer.
 fn word_start(text: &[u8], index: usize, separator: u8) -> usize
-    ensures { λ r. ⌜ r ≤ length (now (text .entry)) ⌝ }
+    ensures { λ r. ⌜ (r ≤ length (now (text .entry))) × (r ≡ wordAt separator (now (text .entry)) index) ⌝ }
 {
     let mut at = past_separators(text, 0, separator);
     let mut i: usize = 0;
@@ -65,14 +66,18 @@ fn word_start(text: &[u8], index: usize, separator: u8) -> usize
 }
 
 // The word of an index, counted from 0, and nothing where there are fewer.
-pub fn word(text: &[u8], index: usize, separator: u8) -> &[u8] {
+pub fn word(text: &[u8], index: usize, separator: u8) -> &[u8]
+    ensures { λ r. ⌜ now r ≡ wordOf separator (now (text .entry)) index ⌝ }
+{
     let start = word_start(text, index, separator);
     let end = next_separator(text, start, separator);
     &text[start..end]
 }
 
 // Whether a word starts at a place.
-fn starts(text: &[u8], at: usize, separator: u8) -> bool {
+fn starts(text: &[u8], at: usize, separator: u8) -> bool
+    ensures { λ r. ⌜ r ≡ startsAt separator (now (text .entry)) at ⌝ }
+{
     if text.len() <= at {
         return false;
     }
@@ -86,7 +91,9 @@ fn starts(text: &[u8], at: usize, separator: u8) -> bool {
 }
 
 // How many words there are.
-pub fn count(text: &[u8], separator: u8) -> usize {
+pub fn count(text: &[u8], separator: u8) -> usize
+    ensures { λ r. ⌜ r ≡ wordCount separator (now (text .entry)) ⌝ }
+{
     let mut words: usize = 0;
     let mut at: usize = 0;
     while at < text.len() {

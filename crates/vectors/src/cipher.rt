@@ -1,73 +1,90 @@
-// AES-128: the vectors of FIPS 197's appendices, and the header masks of RFC 9001 appendix A.
-use crate::print::line;
-use terminal::decode;
+// FIPS 197 and SP 800-38D: the block cipher, its schedule and its S-box, and GCM; the mask of RFC 9001 section 5.4.3.
+use crate::fields;
+use crate::print;
+ghost use Prim.Native.Nat.{_≤_};
+ghost use lib.ListN.{length};
 
-// The key schedule of a key in 32 digits.
-fn schedule(key: &[u8]) -> [u8; 176] {
-    let mut bytes = [0u8; 16];
-    decode(key, &mut bytes);
-    aes_schedule::expand_key(&bytes)
+// A block encrypted under a key: KEY BLOCK.
+fn encrypted(line: &[u8]) -> [u8; 16] {
+    let mut key = [0u8; 16];
+    fields::bytes(line, 1, &mut key);
+    let mut block = [0u8; 16];
+    fields::bytes(line, 2, &mut block);
+    let schedule = aes_schedule::expand_key(&key);
+    aes128::encrypt(&schedule, &block)
 }
 
-// A block in 32 digits, encrypted.
-fn encrypted(key: &[u8], block: &[u8]) -> [u8; 16] {
-    let w = schedule(key);
-    let mut bytes = [0u8; 16];
-    decode(block, &mut bytes);
-    aes128::encrypt(&w, &bytes)
+// aes KEY BLOCK
+pub fn aes(line: &[u8]) {
+    print::bytes(&encrypted(line));
 }
 
-fn block(label: &[u8], key: &[u8], plain: &[u8]) {
-    let r = encrypted(key, plain);
-    line(label, &r);
+// aes-mask KEY SAMPLE: the first five bytes alone
+pub fn aes_mask(line: &[u8]) {
+    let block = encrypted(line);
+    print::bytes(&block[0..5]);
 }
 
-// The first five bytes alone.
-fn mask(label: &[u8], key: &[u8], sample: &[u8]) {
-    let r = encrypted(key, sample);
-    let first = [r[0], r[1], r[2], r[3], r[4]];
-    line(label, &first);
+// aes-schedule KEY
+pub fn aes_schedule(line: &[u8]) {
+    let mut key = [0u8; 16];
+    fields::bytes(line, 1, &mut key);
+    print::bytes(&aes_schedule::expand_key(&key));
 }
 
-fn expansion(label: &[u8], key: &[u8]) {
-    let w = schedule(key);
-    line(label, &w);
+// aes-s-box
+pub fn aes_s_box() {
+    print::bytes(&aes_s_box::table());
 }
 
-fn s_box(label: &[u8]) {
-    let table = aes_s_box::table();
-    line(label, &table);
+// The ciphertext of a plaintext, at the start of a buffer at least as long, and its tag; the associated data comes in three pieces.
+fn seal(
+    key: &[u8; 16],
+    nonce: &[u8; 12],
+    associated: &[u8],
+    plain: &[u8],
+    buffer: &mut [u8],
+) -> [u8; 16]
+    requires { ⌜ (length (now associated) ≤ 4096) × (length (now plain) ≤ 4096) × (length (now plain) ≤ length (now buffer)) ⌝ }
+{
+    let schedule = aes_schedule::expand_key(key);
+    gcm_counter::crypt(&schedule, nonce, plain, buffer, 0);
+    let h = gcm::hash_key(&schedule);
+    let end = associated.len();
+    let one = end / 3;
+    let two = end / 2;
+    let size = plain.len();
+    gcm::make_tag(
+        &schedule,
+        h,
+        nonce,
+        &associated[0..one],
+        &associated[one..two],
+        &associated[two..end],
+        &buffer[0..size],
+    )
 }
 
-pub fn run() {
-    block(
-        b"aes appendix B",
-        b"2b7e151628aed2a6abf7158809cf4f3c",
-        b"3243f6a8885a308d313198a2e0370734",
+// gcm KEY NONCE ASSOCIATED PLAIN
+pub fn gcm(line: &[u8]) {
+    let mut key = [0u8; 16];
+    fields::bytes(line, 1, &mut key);
+    let mut nonce = [0u8; 12];
+    fields::bytes(line, 2, &mut nonce);
+    let mut associated = io::buffer();
+    let longer = fields::bytes(line, 3, &mut associated);
+    let mut plain = io::buffer();
+    let length = fields::bytes(line, 4, &mut plain);
+    let mut out = io::buffer();
+    let tag = seal(
+        &key,
+        &nonce,
+        &associated[..longer],
+        &plain[..length],
+        &mut out,
     );
-    block(
-        b"aes appendix C.1",
-        b"000102030405060708090a0b0c0d0e0f",
-        b"00112233445566778899aabbccddeeff",
-    );
-    block(
-        b"aes zero",
-        b"00000000000000000000000000000000",
-        b"00000000000000000000000000000000",
-    );
-    expansion(
-        b"aes expansion, appendix A.1",
-        b"2b7e151628aed2a6abf7158809cf4f3c",
-    );
-    s_box(b"aes s-box, entries 0 to 255");
-    mask(
-        b"mask RFC 9001 A.2",
-        b"9f50449e04a0e810283a1e9933adedd2",
-        b"d1b1c98dd7689fb8ec11d242b123dc9b",
-    );
-    mask(
-        b"mask RFC 9001 A.3",
-        b"c206b8d9b9f0f37644430b490eeaa314",
-        b"2cd0991cd25b0aac406a5816b6394100",
-    );
+    terminal::say(b"sealed");
+    print::part(b"cipher,tag", 0, &out[0..length]);
+    print::part(b"cipher,tag", 1, &tag);
+    print::end();
 }

@@ -1,22 +1,27 @@
 // wicket header.
-use crate::answers;
-use crate::fields;
-use wire::header::Header;
-use wire::header::Reading;
-use wire::header::header_destination;
-use wire::header::header_source;
-use wire::header::header_token;
-use wire::header::read_header;
+use console::answers;
+use console::fields;
+use header_initial::Header;
+use header_initial::Reading;
+use header_initial::read_header;
+use header_parts::header_destination;
+use header_parts::header_source;
+use header_parts::header_token;
 
 // The fields of a header that was read from a datagram.
 fn read(header: Header, datagram: &[u8]) {
     let destination = header.destination;
     let source = header.source;
     let token = header.token;
-    answers::version(header.version);
-    answers::part(b"destination", destination, header_destination(datagram));
-    answers::part(b"source", source, header_source(datagram));
-    answers::part(b"token", token, header_token(datagram));
+    answers::hex_word(b"version", header.version);
+    answers::part(
+        b"destination",
+        destination.len,
+        destination.at,
+        header_destination(datagram),
+    );
+    answers::part(b"source", source.len, source.at, header_source(datagram));
+    answers::part(b"token", token.len, token.at, header_token(datagram));
     answers::number(b"Length", header.length as u64);
     answers::number(b"number at", header.number_at as u64);
 }

@@ -1,9 +1,5 @@
 // wicket: the library at a terminal.
-mod answers;
-mod arguments;
-mod calls;
-mod fields;
-mod files;
+mod commands;
 mod headers;
 mod opening;
 mod receiving;

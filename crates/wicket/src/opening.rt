@@ -1,9 +1,9 @@
 // wicket open.
-use crate::answers;
-use crate::fields;
-use crate::sealing::keys_of;
-use open::Opened;
+use console::answers;
+use console::fields;
 use open::Opening;
+use open_writing::Opened;
+use wicket_words::keys_of;
 
 // What was opened into a buffer, and the number expected then.
 fn opened(found: Opened, buffer: &[u8], expected: u64) {

@@ -1,11 +1,11 @@
 // wicket receive: the datagrams of a file, one after the other, through one receiver.
-use crate::answers;
-use crate::fields;
-use crate::fields::END;
-use crate::files;
-use crate::sealing::keys_of;
-use open::Opened;
+use console::answers;
+use console::calls;
+use console::fields;
+use console::fields::END;
+use console::files;
 use open::Opening;
+use open_writing::Opened;
 use packets::Keys;
 use terminal::lines::Ending;
 use terminal::lines::blanks_to_zeros;
@@ -13,14 +13,31 @@ use terminal::lines::from_start;
 use terminal::lines::read_line;
 use terminal::words::count;
 use terminal::words::word;
+use wicket_words::keys_of;
 
 // How many bytes of a payload are shown.
 const SHOWN: usize = 16;
 
-// What has come so far.
+// What has come so far: datagrams that were opened and refused, and lines that could not be read.
 struct Tally {
     opened: u64,
     refused: u64,
+    unread: u64,
+}
+
+// One line more that could not be read.
+fn missed(tally: Tally) -> Tally {
+    Tally {
+        opened: tally.opened,
+        refused: tally.refused,
+        unread: files::next(tally.unread),
+    }
+}
+
+// A line that is too long.
+fn too_long(line: u64, tally: Tally) -> Tally {
+    files::too_long(line);
+    missed(tally)
 }
 
 // A packet that was opened, as a row: number, payload's length, its first bytes, and what stands behind the packet.
@@ -47,7 +64,7 @@ fn opened(found: Opened, buffer: &[u8], length: usize) {
 // One datagram comes: a row of the answer.
 fn arrive(keys: Keys, expected: &mut u64, text: &[u8], tally: Tally) -> Tally {
     let mut datagram = io::buffer();
-    let length = terminal::decode(text, &mut datagram);
+    let length = digits_reading::decode(text, &mut datagram);
     let mut out = io::buffer();
     match open::open(keys, expected, &datagram[..length], &mut out) {
         Opening::Refused(why) => {
@@ -55,6 +72,7 @@ fn arrive(keys: Keys, expected: &mut u64, text: &[u8], tally: Tally) -> Tally {
             Tally {
                 opened: tally.opened,
                 refused: files::next(tally.refused),
+                unread: tally.unread,
             }
         }
         Opening::Opened(found) => {
@@ -62,6 +80,7 @@ fn arrive(keys: Keys, expected: &mut u64, text: &[u8], tally: Tally) -> Tally {
             Tally {
                 opened: files::next(tally.opened),
                 refused: tally.refused,
+                unread: tally.unread,
             }
         }
     }
@@ -82,13 +101,13 @@ fn take(keys: Keys, expected: &mut u64, text: &mut [u8], line: u64, tally: Tally
     terminal::say_right(line, 5);
     terminal::say(b"  ");
     if words != 1 {
-        fields::wrong(b"line");
+        calls::wrong(b"line");
         terminal::say(b"more than one word\n");
-        return tally;
+        return missed(tally);
     }
     let datagram = word(text, 0, END);
-    if !fields::is_hex(datagram, b"datagram") {
-        return tally;
+    if !calls::is_hex(datagram, b"datagram") {
+        return missed(tally);
     }
     arrive(keys, expected, datagram, tally)
 }
@@ -97,6 +116,7 @@ fn take(keys: Keys, expected: &mut u64, text: &mut [u8], line: u64, tally: Tally
 fn summary(tally: Tally, expected: u64) {
     answers::number(b"opened", tally.opened);
     answers::number(b"refused", tally.refused);
+    answers::number(b"not read", tally.unread);
     answers::number(b"expected then", expected);
 }
 
@@ -107,6 +127,7 @@ fn receive_all(keys: Keys, before: u64, file: i32, chunk: &mut [u8], text: &mut 
     let mut tally = Tally {
         opened: 0,
         refused: 0,
+        unread: 0,
     };
     let mut line: u64 = 0;
     while line < u64::MAX {
@@ -119,7 +140,9 @@ fn receive_all(keys: Keys, before: u64, file: i32, chunk: &mut [u8], text: &mut 
             Ending::Whole => {
                 tally = take(keys, &mut expected, &mut text[..length], line, tally);
             }
-            Ending::TooLong => files::too_long(line),
+            Ending::TooLong => {
+                tally = too_long(line, tally);
+            }
             Ending::Failed => {
                 files::unread(line);
                 return summary(tally, expected);

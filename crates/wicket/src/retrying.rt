@@ -1,13 +1,13 @@
 // wicket retry, wicket check-retry.
-use crate::answers;
-use crate::fields;
 use crate::sealing::written;
+use console::answers;
+use console::fields;
 use retry_checking::Checking;
 use retry_checking::RetryFields;
-use retry_checking::Writing;
-use retry_checking::retry_destination;
-use retry_checking::retry_source;
-use retry_checking::retry_token;
+use retry_parts::retry_destination;
+use retry_parts::retry_source;
+use retry_parts::retry_token;
+use retry_writing::Writing;
 
 // wicket retry VERSION ORIGINAL DESTINATION SOURCE TOKEN LOW-BITS
 pub fn retry(line: &[u8]) {
@@ -20,8 +20,8 @@ pub fn retry(line: &[u8]) {
     let mut token = io::buffer();
     let token_length = fields::bytes(line, 5, &mut token);
     let mut out = io::buffer();
-    match retry_checking::write_retry(
-        fields::version(line, 1),
+    match retry_writing::write_retry(
+        wicket_words::version(line, 1),
         &original[..original_length],
         &destination[..destination_length],
         &source[..source_length],
@@ -39,14 +39,25 @@ fn checked(found: RetryFields, original: &[u8], datagram: &[u8]) {
     let destination = found.destination;
     let source = found.source;
     let token = found.token;
-    answers::version(found.version);
+    answers::hex_word(b"version", found.version);
     answers::part(
         b"destination",
-        destination,
+        destination.len,
+        destination.at,
         retry_destination(original, datagram),
     );
-    answers::part(b"source", source, retry_source(original, datagram));
-    answers::part(b"token", token, retry_token(original, datagram));
+    answers::part(
+        b"source",
+        source.len,
+        source.at,
+        retry_source(original, datagram),
+    );
+    answers::part(
+        b"token",
+        token.len,
+        token.at,
+        retry_token(original, datagram),
+    );
 }
 
 // wicket check-retry ORIGINAL DATAGRAM

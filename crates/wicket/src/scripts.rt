@@ -1,9 +1,10 @@
 // wicket script: the calls of a file, one after the other; and the program's own call.
-use crate::arguments::gather;
-use crate::calls;
-use crate::fields::END;
-use crate::fields::wrong;
-use crate::files;
+use crate::commands;
+use console::arguments::gather;
+use console::calls::is_well_made;
+use console::calls::wrong;
+use console::fields::END;
+use console::files;
 use terminal::lines::Ending;
 use terminal::lines::blanks_to_zeros;
 use terminal::lines::from_start;
@@ -22,7 +23,7 @@ fn take(text: &mut [u8], manual: &[u8]) {
     terminal::say(text);
     terminal::say(b"\n");
     blanks_to_zeros(text);
-    calls::call(text, manual);
+    commands::call(text, manual);
 }
 
 // All lines of a script.
@@ -62,12 +63,12 @@ fn script(path: &[u8], manual: &[u8]) {
 // A call that is a script, or any other command.
 fn start(line: &[u8], manual: &[u8]) {
     if same(word(line, 0, END), b"script") {
-        if calls::is_well_made(line, manual) {
+        if is_well_made(line, manual) {
             script(word(line, 1, END), manual);
         }
         return;
     }
-    calls::call(line, manual);
+    commands::call(line, manual);
 }
 
 // The program's own call, by its arguments.

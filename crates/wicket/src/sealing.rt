@@ -1,21 +1,10 @@
 // wicket keys, wicket seal.
-use crate::answers;
-use crate::fields;
-use keys::InitialKeys;
-use keys::initial_keys;
-use numbers::packet::FullPn;
-use seal::Sealing;
-
-// The keys that the first three words behind a command name.
-pub fn keys_of(line: &[u8]) -> InitialKeys {
-    let mut id = io::buffer();
-    let length = fields::bytes(line, 2, &mut id);
-    initial_keys(
-        fields::version(line, 1),
-        &id[..length],
-        fields::side(line, 3),
-    )
-}
+use console::answers;
+use console::fields;
+use numbers::FullPn;
+use seal_judging::Sealing;
+use wicket_words::acknowledged;
+use wicket_words::keys_of;
 
 // wicket keys VERSION ID client|server
 pub fn keys(line: &[u8]) {
@@ -28,7 +17,7 @@ pub fn keys(line: &[u8]) {
     let key = keys.key;
     let iv = keys.iv;
     let hp = keys.hp;
-    answers::version(keys.version);
+    answers::hex_word(b"version", keys.version);
     answers::bytes(b"key", &key);
     answers::bytes(b"iv", &iv);
     answers::bytes(b"hp", &hp);
@@ -60,7 +49,7 @@ pub fn seal(line: &[u8]) {
     match seal::seal(
         keys,
         FullPn(fields::number(line, 4)),
-        fields::acknowledged(line, 5),
+        acknowledged(line, 5),
         fields::number(line, 6) as usize,
         &destination[..destination_length],
         &source[..source_length],

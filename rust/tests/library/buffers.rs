@@ -3,6 +3,7 @@
 use crate::{client_keys, initial, sealed, ID, SENTINEL};
 use driftwicket::retry::{self, Retry};
 use driftwicket::{open, read_header, seal, Keys, Refusal, Side, Version, TAG};
+use std::mem::{self, MaybeUninit};
 use std::ops::Range;
 
 /// Where a part stands in the bytes that it is a part of.
@@ -102,4 +103,16 @@ fn debug_tells_no_secret() {
     assert_eq!(format!("{:?}", Keys::from_bytes(record)), "Keys { version: Version(0x00000000), .. }");
     let keys = Keys::initial(Version::DRAFT_2, &ID, Side::Server).unwrap();
     assert_eq!(format!("{keys:#?}"), "Keys {\n    version: Version(0x709a50c4),\n    ..\n}");
+}
+
+#[test]
+fn a_dropped_record_is_wiped() {
+    let mut place = MaybeUninit::new(Keys::from_bytes([SENTINEL; Keys::LENGTH]));
+    // SAFETY: the keys are there until they are dropped, once; what they leave is bytes.
+    let left = unsafe {
+        place.as_mut_ptr().drop_in_place();
+        place.as_ptr().cast::<[u8; Keys::LENGTH]>().read()
+    };
+    assert_eq!(mem::size_of::<Keys>(), Keys::LENGTH);
+    assert_eq!(left, [0; Keys::LENGTH]);
 }

@@ -1,10 +1,12 @@
-//! The library through this crate: the papers' packets, every refusal, what stays untouched, and a receiver's list.
+//! The library through this crate: the papers' packets, every refusal, what stays untouched, and a receiver's list; and that
+//! the repository's other texts show the same examples and words.
 
 mod buffers;
 mod papers;
 mod readme;
 mod receiver;
 mod refusals;
+mod words;
 
 use driftwicket::{seal, FullPn, Initial, Keys, Side, Version, LIMIT};
 

@@ -1,4 +1,5 @@
-//! The repository's README shows the first example of this crate's documents, which runs as a test.
+//! The repository's README shows the first example of this crate's documents, which runs as a test, and a part of
+//! examples/first.c, which `make first` runs.
 
 /// The lines of the first block of code behind a heading, without what each line starts with.
 fn first_block<'t>(text: &'t str, heading: &str, prefix: &str) -> Vec<&'t str> {
@@ -14,4 +15,12 @@ fn the_readme_shows_the_example_that_is_tested() {
     let tested = first_block(include_str!("../../src/lib.rs"), "# A first use", "//!");
     assert!(shown.len() > 20);
     assert_eq!(shown, tested);
+}
+
+#[test]
+fn the_readme_shows_a_part_of_the_example_for_c() {
+    let shown = first_block(include_str!("../../../README.md"), "## A first use, in C", "");
+    let example: Vec<&str> = include_str!("../../../examples/first.c").lines().map(str::trim).collect();
+    assert!(shown.len() > 15);
+    assert!(example.windows(shown.len()).any(|lines| lines == shown));
 }

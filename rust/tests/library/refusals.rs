@@ -117,6 +117,21 @@ fn of_opening() {
     assert_eq!(open(&unknown, &mut 0, &[], &mut []), Err(Refusal::Version));
 }
 
+/// The reserved bits are judged before the tag, so that most packets of other senders don't get as far as that.
+#[test]
+fn of_opening_with_other_keys_three_in_four_are_9() {
+    let datagram = with(0, 0);
+    let mut reserved = 0;
+    for id in 0..400_u32 {
+        let others = Keys::initial(Version::ONE, &id.to_be_bytes(), Side::Client).unwrap();
+        match open(&others, &mut 0, &datagram, &mut [0; LIMIT]) {
+            Err(Refusal::Reserved) => reserved += 1,
+            answer => assert_eq!(answer, Err(Refusal::Tag)),
+        }
+    }
+    assert!((280..=320).contains(&reserved), "{reserved} of 400");
+}
+
 /// A Retry that can be written.
 const RETRY: Retry =
     Retry { version: Version::ONE, original: &ID, destination: b"to", source: b"from", token: b"token", low_bits: 0 };

@@ -1,16 +1,18 @@
 //! `dw_check_retry`: RFC 9000 section 17.2.5, RFC 9001 section 5.8.
 
+use super::call::{Call, Hex};
 use super::damage;
+use super::entry::Entry;
 use super::faults::{each_set, small_sets, Fault};
 use super::sample::{self, MILLION, VERSIONS};
+use super::tally::Tally;
 use super::write_retry::WriteRetry;
-use super::{Call, Entry, Hex, Tally};
 use crate::effect::Effect;
 use crate::library;
 use crate::random::Random;
 use second::header::{FIXED_BIT, FORM_BIT};
-use second::keys::version;
 use second::retry::{check_retry, integrity_tag, Checked};
+use second::version::version;
 use std::fmt::{self, Display, Formatter};
 
 pub const ENTRY: Entry = Entry {
@@ -125,7 +127,7 @@ fn originals(tally: &mut Tally, random: &mut Random) {
         }
         tally.compare_knowing(&CheckRetry { original: &sample::long_id(random), datagram: &packet }, 5);
     }
-    for original in [Some(&MILLION[..]), sample::vast()].into_iter().flatten() {
+    for original in sample::huge() {
         tally.compare_knowing(&CheckRetry { original, datagram: &[] }, 5);
     }
 }
@@ -246,7 +248,7 @@ fn large(tally: &mut Tally, random: &mut Random) {
     for original in [0, 20, 21] {
         let original = random.bytes(original);
         let known = if original.len() > 20 { 5 } else { 1 };
-        for datagram in [Some(&[][..]), Some(&MILLION[..1_501]), Some(&MILLION), sample::vast()].into_iter().flatten() {
+        for datagram in [&[][..], &MILLION[..1_501]].into_iter().chain(sample::huge()) {
             tally.compare_knowing(&CheckRetry { original: &original, datagram }, known);
         }
     }

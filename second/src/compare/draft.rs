@@ -4,9 +4,10 @@ use super::sample;
 use crate::random::Random;
 use second::header::{FIXED_BIT, FORM_BIT};
 use second::integer::{self, FORMS};
-use second::keys::{version, Keys};
+use second::keys::Keys;
 use second::numbers::NUMBER_LIMIT;
 use second::seal::protect;
+use second::version::version;
 
 /// A connection ID and the length that is claimed for it.
 #[derive(Clone)]

@@ -1,7 +1,9 @@
 //! `dw_initial_keys`: RFC 9001 section 5.2.
 
-use super::sample::{self, Bytes, FLAGS, MILLION, VERSIONS};
-use super::{Call, Entry, Hex, Tally};
+use super::call::{Call, Hex};
+use super::entry::Entry;
+use super::sample::{self, Bytes, FLAGS, VERSIONS};
+use super::tally::Tally;
 use crate::effect::Effect;
 use crate::library;
 use crate::random::Random;
@@ -100,7 +102,7 @@ fn random_ids(tally: &mut Tally, random: &mut Random) {
 }
 
 fn huge(tally: &mut Tally, random: &mut Random) {
-    for destination in [Some(&MILLION[..]), sample::vast()].into_iter().flatten() {
+    for destination in sample::huge() {
         for (version, known) in [(VERSIONS[0], 5), (VERSIONS[1], 5), (2, 4)] {
             let call = InitialKeys::new(random, version, Cow::Borrowed(destination), 0);
             tally.compare_knowing(&call, known);

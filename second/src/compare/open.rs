@@ -3,19 +3,17 @@
 use super::arrival::{opening_faults, Arrival};
 use super::damage::{self, Sealed};
 use super::draft::{expected_for, Draft};
+use super::entry::Entry;
 use super::faults::{each_set, small_sets};
+use super::opening::{report, Open};
 use super::receiver;
-use super::sample::{self, near, MILLION, VERSIONS};
-use super::{Call, Entry, Hex, Tally};
-use crate::effect::Effect;
-use crate::library;
+use super::sample::{self, near, VERSIONS};
+use super::tally::Tally;
 use crate::random::Random;
 use second::integer::FORMS;
 use second::keys::Keys;
 use second::numbers::NUMBER_LIMIT;
-use second::open::{open, Opened};
 use second::receiver::Receiver;
-use std::fmt::{self, Display, Formatter};
 
 pub const ENTRY: Entry = Entry {
     name: "dw_open",
@@ -33,44 +31,6 @@ pub const ENTRY: Entry = Entry {
     ],
     refusals: &[1, 2, 3, 4, 5, 6, 7, 8, 9, 10, 11],
 };
-
-pub struct Open<'a> {
-    pub keys: &'a [u8; 48],
-    pub expected: u64,
-    pub datagram: &'a [u8],
-    /// the lent bytes before the call
-    pub output: &'a [u8],
-}
-
-impl Display for Open<'_> {
-    fn fmt(&self, formatter: &mut Formatter) -> fmt::Result {
-        let Open { keys, expected, datagram, output } = self;
-        write!(formatter, "keys {}, expected {expected:#x}, datagram {}, ", Hex(&keys[..]), Hex(datagram))?;
-        write!(formatter, "lent {} bytes {}", output.len(), Hex(output))
-    }
-}
-
-impl Call<5> for Open<'_> {
-    fn ours(&self) -> Effect<5> {
-        let mut output = self.output.to_vec();
-        let mut expected = self.expected;
-        let opened = open(&Keys::from_record(self.keys), &mut expected, self.datagram, &mut output);
-        let effect = Effect::writing(opened.map(|opened: Opened| opened.words()), output);
-        Effect { expected, ..effect }
-    }
-
-    fn theirs(&self) -> Effect<5> {
-        library::open(self.keys, self.expected, self.datagram, self.output)
-    }
-}
-
-/// The report that a packet's making tells.
-pub fn report(draft: &Draft) -> [u64; 5] {
-    let header = draft.fields().number + draft.number_length;
-    let lengths = [draft.number_length, header, draft.payload.len(), header + draft.payload.len() + 16];
-    let [number_length, header, payload, used] = lengths.map(|length| length as u64);
-    [draft.number, number_length, header, payload, used]
-}
 
 /// An expected number from which a packet's number is recovered.
 fn expected_of(random: &mut Random, sealed: &Sealed) -> u64 {
@@ -134,7 +94,7 @@ fn behind(tally: &mut Tally, random: &mut Random) {
             let call = Open { keys: &sealed.record, expected, datagram: &datagram, output: &output };
             tally.compare_knowing(&call, u32::from(more > to_limit));
         }
-        for datagram in [Some(&MILLION[..]), sample::vast()].into_iter().flatten() {
+        for datagram in sample::huge() {
             let mut call = Open { keys: &sealed.record, expected, datagram, output: &output };
             tally.compare_knowing(&call, 1);
             call.expected = NUMBER_LIMIT + 1;

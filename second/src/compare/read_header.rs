@@ -1,11 +1,13 @@
 //! `dw_read_header`: RFC 9000 section 17.2.2.
 
 use super::arrival::{Arrival, HEADER_FAULTS};
+use super::call::{Call, Hex};
 use super::damage::{self, Sealed};
 use super::draft::Draft;
+use super::entry::Entry;
 use super::faults::{each_set, small_sets};
-use super::sample::{self, MILLION, VERSIONS};
-use super::{Call, Entry, Hex, Tally};
+use super::sample::{self, VERSIONS};
+use super::tally::Tally;
 use crate::effect::Effect;
 use crate::library;
 use crate::random::Random;
@@ -135,7 +137,7 @@ fn large(tally: &mut Tally, random: &mut Random) {
             tally.compare_knowing(&ReadHeader(&[&packet[..], &behind].concat()), u32::from(size > 1_500));
         }
     }
-    for datagram in [Some(&MILLION[..]), sample::vast()].into_iter().flatten() {
+    for datagram in sample::huge() {
         tally.compare_knowing(&ReadHeader(datagram), 1);
     }
 }

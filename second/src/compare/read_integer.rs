@@ -1,7 +1,9 @@
 //! `dw_read_integer`: RFC 9000 section 16.
 
-use super::sample::{self, near, MILLION};
-use super::{Call, Entry, Hex, Tally};
+use super::call::{Call, Hex};
+use super::entry::Entry;
+use super::sample::{self, near};
+use super::tally::Tally;
 use crate::effect::Effect;
 use crate::library;
 use crate::random::Random;
@@ -75,7 +77,7 @@ fn random_bytes(tally: &mut Tally, random: &mut Random) {
 }
 
 fn huge(tally: &mut Tally, _: &mut Random) {
-    for bytes in [Some(&MILLION[..]), sample::vast()].into_iter().flatten() {
+    for bytes in sample::huge() {
         tally.compare(&ReadInteger(bytes));
     }
 }

@@ -3,9 +3,9 @@
 
 use super::damage::Sealed;
 use super::draft::Draft;
-use super::open::{report, Open};
+use super::opening::{report, Open};
 use super::sample;
-use super::Tally;
+use super::tally::Tally;
 use crate::random::Random;
 use second::keys::Keys;
 use second::numbers::NUMBER_LIMIT;

@@ -1,8 +1,10 @@
 //! `dw_recover`: RFC 9000 appendix A.3.
 
+use super::call::Call;
+use super::entry::Entry;
 use super::faults::{each_set, every_set, Fault};
 use super::sample::{self, near, WRONG_LENGTHS};
-use super::{Call, Entry, Tally};
+use super::tally::Tally;
 use crate::effect::Effect;
 use crate::library;
 use crate::random::Random;

@@ -1,10 +1,11 @@
 //! What inputs are drawn from: numbers, versions, connection IDs and keys, with a leaning towards the edges.
 
 use crate::random::Random;
-use second::keys::{VERSION_1, VERSION_2_DRAFT};
 use second::numbers::NUMBER_LIMIT;
+use second::version::{VERSION_1, VERSION_2_DRAFT};
 use std::alloc::{alloc_zeroed, Layout};
 use std::borrow::Cow;
+use std::iter;
 use std::slice;
 use std::sync::OnceLock;
 
@@ -25,7 +26,7 @@ pub static MILLION: [u8; 1_000_000] = [0x5a; 1_000_000];
 
 /// Over four thousand million bytes, so that a length kept in 32 bits would come out as five. Nothing reads them, so no
 /// memory is spent; where the machine gives none out like that, there is nothing to try.
-pub fn vast() -> Option<&'static [u8]> {
+fn vast() -> Option<&'static [u8]> {
     static VAST: OnceLock<Option<&'static [u8]>> = OnceLock::new();
     *VAST.get_or_init(|| {
         let length = usize::try_from((1u64 << 32) + 5).ok()?;
@@ -36,6 +37,11 @@ pub fn vast() -> Option<&'static [u8]> {
             (!pointer.is_null()).then(|| slice::from_raw_parts(pointer, length))
         }
     })
+}
+
+/// Slices that no packet can hold.
+pub fn huge() -> impl Iterator<Item = &'static [u8]> {
+    iter::once(&MILLION[..]).chain(vast())
 }
 
 /// A number close to another, on either side of it.

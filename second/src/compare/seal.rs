@@ -1,9 +1,11 @@
 //! `dw_seal`: RFC 9001 sections 5.3 and 5.4.
 
+use super::call::{Call, Hex};
+use super::entry::Entry;
 use super::faults::{each_set, every_set, Fault};
-use super::sample::{self, Bytes, MILLION, WRONG_LENGTHS};
+use super::sample::{self, Bytes, WRONG_LENGTHS};
 use super::shorten::Gap;
-use super::{Call, Entry, Hex, Tally};
+use super::tally::Tally;
 use crate::effect::Effect;
 use crate::library::{self, SealArguments};
 use crate::random::Random;
@@ -283,24 +285,29 @@ fn any(tally: &mut Tally, random: &mut Random) {
     }
 }
 
-/// A slice that no packet can hold is 1, or 5 for an ID, and only after what stands before.
+/// A slice that no packet can hold, put into each field: an ID is judged first.
+const HUGE: [Fault<(Seal, &'static [u8])>; 4] = [
+    (5, |(call, slice), _| call.destination = Cow::Borrowed(slice)),
+    (5, |(call, slice), _| call.source = Cow::Borrowed(slice)),
+    (1, |(call, slice), _| call.token = Cow::Borrowed(slice)),
+    (1, |(call, slice), _| call.payload = Cow::Borrowed(slice)),
+];
+
+/// What a slice that no packet can hold brings, and what is judged before and after its ID.
 fn huge(tally: &mut Tally, random: &mut Random) {
-    for slice in [Some(&MILLION[..]), sample::vast()].into_iter().flatten() {
-        for set in 1..1 << 4 {
+    for slice in sample::huge() {
+        let faultless = |random: &mut Random| {
             let mut call = Seal::valid(random, 3, 9);
             call.lend(random, 1_500);
-            let slices = [&mut call.token, &mut call.payload, &mut call.destination, &mut call.source];
-            for (place, field) in slices.into_iter().enumerate() {
-                if set >> place & 1 == 1 {
-                    *field = Cow::Borrowed(slice);
-                }
-            }
-            tally.compare_knowing(&call, if set >= 4 { 5 } else { 1 });
+            (call, slice)
+        };
+        each_set(&HUGE, every_set(HUGE.len(), 1), random, faultless, |(call, _), known, random| {
+            tally.compare_knowing(call, known);
             let mut short = Seal { payload: Cow::Borrowed(&[]), length: 3, ..call.clone() };
             short.gap = Gap { number: 0, any_acknowledged: 0, acknowledged: 0 };
-            tally.compare_knowing(&short, if set >= 4 { 5 } else { 7 });
-            call.length = random.pick(&WRONG_LENGTHS);
-            tally.compare_knowing(&call, 12);
-        }
+            tally.compare_knowing(&short, if known == 5 { 5 } else { 7 });
+            let wrong = Seal { length: random.pick(&WRONG_LENGTHS), ..call.clone() };
+            tally.compare_knowing(&wrong, 12);
+        });
     }
 }

@@ -1,6 +1,6 @@
 //! The count of one entry point's comparisons, and what is printed of a difference.
 
-use super::{Call, Entry};
+use super::call::Call;
 use crate::effect::Effect;
 use std::fmt::Display;
 
@@ -101,9 +101,9 @@ impl Tally {
         format!("answered {}, refused {}", self.answers[0], refused.join(", "))
     }
 
-    /// The answers that an entry point can give and that no call brought about.
-    pub fn not_reached(&self, entry: &Entry) -> Vec<u32> {
-        let possible = [0].iter().chain(entry.refusals);
+    /// Which of 0 and these refusals no call brought about.
+    pub fn not_reached(&self, refusals: &[u32]) -> Vec<u32> {
+        let possible = [0].iter().chain(refusals);
         possible.copied().filter(|number| self.answers[*number as usize] == 0).collect()
     }
 }

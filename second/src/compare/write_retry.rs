@@ -1,8 +1,10 @@
 //! `dw_write_retry`: RFC 9000 section 17.2.5, RFC 9001 section 5.8.
 
+use super::call::{Call, Hex};
+use super::entry::Entry;
 use super::faults::{each_set, every_set, Fault};
-use super::sample::{self, Bytes, MILLION};
-use super::{Call, Entry, Hex, Tally};
+use super::sample::{self, Bytes};
+use super::tally::Tally;
 use crate::effect::Effect;
 use crate::library;
 use crate::random::Random;
@@ -177,20 +179,22 @@ fn any(tally: &mut Tally, random: &mut Random) {
     }
 }
 
-/// A slice that no packet can hold is 1, or 5 for an ID.
+/// A slice that no packet can hold, put into each field: an ID is judged first.
+const HUGE: [Fault<(WriteRetry, &'static [u8])>; 4] = [
+    (5, |(call, slice), _| call.original = Cow::Borrowed(slice)),
+    (5, |(call, slice), _| call.destination = Cow::Borrowed(slice)),
+    (5, |(call, slice), _| call.source = Cow::Borrowed(slice)),
+    (1, |(call, slice), _| call.token = Cow::Borrowed(slice)),
+];
+
+/// What a slice that no packet can hold brings, and that the version is judged before it.
 fn huge(tally: &mut Tally, random: &mut Random) {
-    for slice in [Some(&MILLION[..]), sample::vast()].into_iter().flatten() {
-        for set in 1..1 << 4 {
-            let mut call = WriteRetry::valid(random, 3);
-            let slices = [&mut call.token, &mut call.original, &mut call.destination, &mut call.source];
-            for (place, field) in slices.into_iter().enumerate() {
-                if set >> place & 1 == 1 {
-                    *field = Cow::Borrowed(slice);
-                }
-            }
-            tally.compare_knowing(&call, if set >= 2 { 5 } else { 1 });
-            call.version = sample::unknown_version(random);
-            tally.compare_knowing(&call, 4);
-        }
+    for slice in sample::huge() {
+        let faultless = |random: &mut Random| (WriteRetry::valid(random, 3), slice);
+        each_set(&HUGE, every_set(HUGE.len(), 1), random, faultless, |(call, _), known, random| {
+            tally.compare_knowing(call, known);
+            let unknown = WriteRetry { version: sample::unknown_version(random), ..call.clone() };
+            tally.compare_knowing(&unknown, 4);
+        });
     }
 }

@@ -8,24 +8,6 @@ use Rattle.aes_state.specs.State.{input}
 use Rattle.aes128.proofs.round_key.Statement.{statement}
 use Rattle.aes128.proofs.round_key.Tie as tie
 
-mul-at : tie.Need-mul-at
-mul-at c = search needs
-
-add-input : tie.Need-add-input
-add-input c = search needs
-
-sub-input : tie.Need-sub-input
-sub-input c = search needs
-
-part-input-start : tie.Need-part-input-start
-part-input-start c = search needs
-
-part-input-end : tie.Need-part-input-end
-part-input-end c = search needs
-
-input-requires : tie.Need-input-requires
-input-requires c κs = search needs
-
 returns : tie.Need-returns
 returns c =
     let a = c .before .before .before .args in
@@ -35,4 +17,4 @@ returns c =
 pub round-key-spec : {M : Type 1} → statement M
 round-key-spec =
     tie.close
-    (tie.spec mul-at add-input sub-input part-input-start part-input-end input-requires returns)
+    (tie.spec (λ c. search needs) (λ c. search needs) (λ c. search needs) (λ c. search needs) (λ c. search needs) (λ c κs. search needs) returns)

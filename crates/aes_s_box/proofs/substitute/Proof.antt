@@ -3,11 +3,8 @@ use borrow.Author.Needs.{needs}
 use Rattle.aes_s_box.proofs.substitute.Statement.{statement}
 use Rattle.aes_s_box.proofs.substitute.Tie as tie
 
-element-copy-out-result : tie.Need-element-copy-out-result
-element-copy-out-result c = search needs
-
 returns : tie.Need-returns
 returns c = c .before .pre .rule (c .before .args .b) (search needs)
 
 pub substitute-spec : {M : Type 1} → statement M
-substitute-spec = tie.close (tie.spec element-copy-out-result returns)
+substitute-spec = tie.close (tie.spec (λ c. search needs) returns)

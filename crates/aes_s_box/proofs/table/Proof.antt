@@ -1,13 +1,12 @@
 -- The table's rule, by one test over its entries.
 use mathlib.Core.Path.{refl}
-use Rattle.aes_s_box.specs.Field.{xTimes, sums, squares}
-use Rattle.aes_s_box.specs.Box.{sBox, spelled}
-use Rattle.aes_s_box.proofs.SBox.{right, boxed}
+use Rattle.aes_s_box.specs.Box.{spelled}
+use Rattle.aes_s_box.proofs.SBox.{inverses, boxed}
 use Rattle.aes_s_box.proofs.table.Statement.{statement}
 use Rattle.aes_s_box.proofs.table.Tie as tie
 
 returns : tie.Need-returns
-unfolding right sBox spelled squares sums xTimes
+unfolding inverses spelled
 returns c = boxed _ refl tt
 
 pub table-spec : {M : Type 1} → statement M

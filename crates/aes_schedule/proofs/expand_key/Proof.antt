@@ -15,43 +15,10 @@ Inv-loop key table w₀ i₀ w i = (4 ≤ i) × (i ≤ 44) × (length w ≡ 176)
 abbrev μ-loop : tie.MeasureT-loop
 μ-loop key table w₀ i₀ w i = 44 - i
 
-table-requires : tie.Need-table-requires Inv-loop μ-loop
-table-requires c κs = search needs
-
-slice-aggregate-copy : tie.Need-slice-aggregate-copy Inv-loop μ-loop
-slice-aggregate-copy c = search needs
-
-copy-requires : tie.Need-copy-requires Inv-loop μ-loop
-copy-requires c κs = search needs
-
 loop-holds : tie.Need-loop-holds Inv-loop μ-loop
 loop-holds c =
     let key = c .before .before .before .before .before .args .key in
     (search needs, search needs, search needs, ap (λ (v : _). grown 40 4 (take 16 v)) (c .before .copy .ensures) ∙ schedule-start _ (key .now) (search needs))
-
-slice-aggregate-next-word : tie.Need-slice-aggregate-next-word Inv-loop μ-loop
-slice-aggregate-next-word c = search needs
-
-next-word-requires : tie.Need-next-word-requires Inv-loop μ-loop
-next-word-requires c κs = search needs
-
-slice-aggregate-copy-2 : tie.Need-slice-aggregate-copy-2 Inv-loop μ-loop
-slice-aggregate-copy-2 c = search needs
-
-mul-copy : tie.Need-mul-copy Inv-loop μ-loop
-mul-copy c = search needs
-
-slice-aggregate-copy-3 : tie.Need-slice-aggregate-copy-3 Inv-loop μ-loop
-slice-aggregate-copy-3 c = search needs
-
-copy-requires-2 : tie.Need-copy-requires-2 Inv-loop μ-loop
-copy-requires-2 c κs = search needs
-
-add-i : tie.Need-add-i Inv-loop μ-loop
-add-i c = search needs
-
-loop-less : tie.Need-loop-less Inv-loop μ-loop
-loop-less c = search needs
 
 loop-again : tie.Need-loop-again Inv-loop μ-loop
 loop-again c =
@@ -70,17 +37,17 @@ expand-key-spec =
     (tie.spec
     Inv-loop
     μ-loop
-    table-requires
-    slice-aggregate-copy
-    copy-requires
+    (λ c κs. search needs)
+    (λ c. search needs)
+    (λ c κs. search needs)
     loop-holds
-    slice-aggregate-next-word
-    next-word-requires
-    slice-aggregate-copy-2
-    mul-copy
-    slice-aggregate-copy-3
-    copy-requires-2
-    add-i
-    loop-less
+    (λ c. search needs)
+    (λ c κs. search needs)
+    (λ c. search needs)
+    (λ c. search needs)
+    (λ c. search needs)
+    (λ c κs. search needs)
+    (λ c. search needs)
+    (λ c. search needs)
     loop-again
     returns)

@@ -8,24 +8,6 @@ use Rattle.aes_schedule.specs.Expansion.{turned, nextWord}
 use Rattle.aes_schedule.proofs.next_word.Statement.{statement}
 use Rattle.aes_schedule.proofs.next_word.Tie as tie
 
-sub-word : tie.Need-sub-word
-sub-word c = search needs
-
-word-requires : tie.Need-word-requires
-word-requires c κs = search needs
-
-sub-word-2 : tie.Need-sub-word-2
-sub-word-2 c = search needs
-
-word-requires-2 : tie.Need-word-requires-2
-word-requires-2 c κs = search needs
-
-turned-requires : tie.Need-turned-requires
-turned-requires c κs = search needs
-
-sum-requires : tie.Need-sum-requires
-sum-requires c κs = search needs
-
 returns : tie.Need-returns
 unfolding nextWord
 returns c =
@@ -37,10 +19,10 @@ pub next-word-spec : {M : Type 1} → statement M
 next-word-spec =
     tie.close
     (tie.spec
-    sub-word
-    word-requires
-    sub-word-2
-    word-requires-2
-    turned-requires
-    sum-requires
+    (λ c. search needs)
+    (λ c κs. search needs)
+    (λ c. search needs)
+    (λ c κs. search needs)
+    (λ c κs. search needs)
+    (λ c κs. search needs)
     returns)

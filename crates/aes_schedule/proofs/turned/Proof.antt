@@ -8,18 +8,6 @@ use Rattle.aes_schedule.specs.Expansion.{turned}
 use Rattle.aes_schedule.proofs.turned.Statement.{statement}
 use Rattle.aes_schedule.proofs.turned.Tie as tie
 
-rot-word-requires : tie.Need-rot-word-requires
-rot-word-requires c κs = search needs
-
-sub-word-requires : tie.Need-sub-word-requires
-sub-word-requires c κs = search needs
-
-rcon-requires : tie.Need-rcon-requires
-rcon-requires c κs = search needs
-
-sum-requires : tie.Need-sum-requires
-sum-requires c κs = search needs
-
 returns : tie.Need-returns
 returns c =
     let s = c .before .before in
@@ -32,4 +20,4 @@ returns-2 c = ap (λ (t : Bool). turned t (c .before .args .i) (c .before .args 
 pub turned-spec : {M : Type 1} → statement M
 turned-spec =
     tie.close
-    (tie.spec rot-word-requires sub-word-requires rcon-requires sum-requires returns returns-2)
+    (tie.spec (λ c κs. search needs) (λ c κs. search needs) (λ c κs. search needs) (λ c κs. search needs) returns returns-2)

@@ -1,35 +1,16 @@
 -- The text holds the info with a one behind it.
 use Prim.Native.Nat.{ℕ, _+_}
 use mathlib.Core.List.{List}
-use mathlib.Core.Path.{_≡_, sym, ap, _∙_}
+use mathlib.Core.Path.{_≡_, refl, sym, ap, _∙_}
 use borrow.Author.Needs.{needs}
 use native.Mathlib.Omega.{arith}
 use lib.ListN.{length, take, replicate, length-take, length-append}
 use lib.Seq.{length-take-le}
-use Rattle.octets.specs.Octets.{bytes, laid}
 use Rattle.octets.proofs.Buffers.{begun-front}
-use Rattle.hkdf.specs.Hkdf.{hmac}
+use Rattle.hmac.specs.Hmac.{hmac}
 use Rattle.hkdf.proofs.Info.{text-written, first-block}
 use Rattle.hkdf.proofs.expand.Statement.{statement}
 use Rattle.hkdf.proofs.expand.Tie as tie
-
-add-end : tie.Need-add-end
-add-end c = search needs
-
-slice-aggregate-copy : tie.Need-slice-aggregate-copy
-slice-aggregate-copy c = search needs
-
-copy-requires : tie.Need-copy-requires
-copy-requires c κs = search needs
-
-slice-aggregate-store : tie.Need-slice-aggregate-store
-slice-aggregate-store c = search needs
-
-store-requires : tie.Need-store-requires
-store-requires c κs = search needs
-
-array-share-prefix-text : tie.Need-array-share-prefix-text
-array-share-prefix-text c = search needs
 
 slice-aggregate-hmac : tie.Need-slice-aggregate-hmac
 slice-aggregate-hmac c =
@@ -45,20 +26,23 @@ returns : tie.Need-returns
 returns c =
     let a = c .before .before .before .before .before .before .before .before .before .before .args in
     let text = a .info .now in
-    let one = c .before .before .before .before .before .before .before .copy .ensures in
-    let two = c .before .before .before .before .store .ensures ∙ ap (λ (d : List ℕ). laid d (length text) (bytes 1 1)) one ∙ text-written (replicate 260 0) text in
-    c .hmac .ensures ∙ ap (λ (d : List ℕ). hmac (a .prk .now) (take (length text + 1) d)) two ∙ ap (hmac (a .prk .now)) (begun-front _ (replicate 260 0) (length text + 1) (length-append text _)) ∙ first-block (a .prk .now) text
+    let copied = c .before .before .before .before .before .before .before .copy .ensures in
+    let written = text-written (replicate 260 0) _ _ text _ copied (c .before .before .before .before .store .ensures) refl in
+    c .hmac .ensures
+    ∙ ap (λ (d : List ℕ). hmac (a .prk .now) (take (length text + 1) d)) written
+    ∙ ap (hmac (a .prk .now)) (begun-front _ (replicate 260 0) (length text + 1) (length-append text _))
+    ∙ first-block (a .prk .now) text
 
 pub expand-spec : {M : Type 1} → statement M
 expand-spec =
     tie.close
     (tie.spec
-    add-end
-    slice-aggregate-copy
-    copy-requires
-    slice-aggregate-store
-    store-requires
-    array-share-prefix-text
+    (λ c. search needs)
+    (λ c. search needs)
+    (λ c κs. search needs)
+    (λ c. search needs)
+    (λ c κs. search needs)
+    (λ c. search needs)
     slice-aggregate-hmac
     hmac-requires
     returns)

@@ -12,18 +12,6 @@ use Rattle.hkdf.proofs.Info.{info-length, expand-label-is}
 use Rattle.hkdf.proofs.expand_label.Statement.{statement}
 use Rattle.hkdf.proofs.expand_label.Tie as tie
 
-add-end : tie.Need-add-end
-add-end c = search needs
-
-slice-aggregate-write-info : tie.Need-slice-aggregate-write-info
-slice-aggregate-write-info c = search needs
-
-write-info-requires : tie.Need-write-info-requires
-write-info-requires c κs = search needs
-
-array-share-prefix-info : tie.Need-array-share-prefix-info
-array-share-prefix-info c = search needs
-
 slice-aggregate-expand : tie.Need-slice-aggregate-expand
 slice-aggregate-expand c =
     let written = c .before .before .write-info in
@@ -33,9 +21,6 @@ slice-aggregate-expand c =
 expand-requires : tie.Need-expand-requires
 expand-requires c κs = simp length-take (omega arith)
 
-array-share-prefix-block : tie.Need-array-share-prefix-block
-array-share-prefix-block c = search needs
-
 slice-aggregate-copy : tie.Need-slice-aggregate-copy
 slice-aggregate-copy c =
     let block = c .before .before .expand .result in
@@ -44,9 +29,6 @@ slice-aggregate-copy c =
 
 copy-requires : tie.Need-copy-requires
 copy-requires c κs = simp length-take (omega arith)
-
-same-length : tie.Need-same-length
-same-length c = search needs
 
 returns : tie.Need-returns
 returns c =
@@ -62,14 +44,14 @@ pub expand-label-spec : {M : Type 1} → statement M
 expand-label-spec =
     tie.close
     (tie.spec
-    add-end
-    slice-aggregate-write-info
-    write-info-requires
-    array-share-prefix-info
+    (λ c. search needs)
+    (λ c. search needs)
+    (λ c κs. search needs)
+    (λ c. search needs)
     slice-aggregate-expand
     expand-requires
-    array-share-prefix-block
+    (λ c. search needs)
     slice-aggregate-copy
     copy-requires
-    same-length
+    (λ c. search needs)
     returns)

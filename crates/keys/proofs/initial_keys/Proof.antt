@@ -3,36 +3,21 @@ use mathlib.Core.Path.{sym, ap, _∙_}
 use borrow.Author.Needs.{needs}
 use borrow.Author.Tests.{not-true, not-false}
 use native.Mathlib.Omega.{arith}
-use Rattle.keys.specs.InitialKeys.{keysFrom}
+use Rattle.keys_expansion.specs.Expansion.{keysFrom}
 use Rattle.keys.specs.Answers.{sideOf, refusalOf, keysGiven}
 use Rattle.keys.proofs.Made.{unknown-version, long-id, keys-made}
 use Rattle.keys.proofs.initial_keys.Statement.{statement}
 use Rattle.keys.proofs.initial_keys.Tie as tie
-
-is-known-requires : tie.Need-is-known-requires
-is-known-requires c κs = search needs
-
-blank-requires : tie.Need-blank-requires
-blank-requires c κs = search needs
 
 returns : tie.Need-returns
 returns c =
     let is = unknown-version _ (c .before .before .before .before .args .destination .now) (sideOf (c .before .before .before .before .args .side)) (sym (c .before .before .is-known .ensures) ∙ not-true _ (c .before .if1 .taken)) in
     record { refusal = ap refusalOf (sym is); keys = c .blank .ensures ∙ ap keysGiven (sym is) }
 
-blank-requires-2 : tie.Need-blank-requires-2
-blank-requires-2 c κs = search needs
-
 returns-2 : tie.Need-returns-2
 returns-2 c =
     let is = long-id _ (c .before .before .before .before .before .args .destination .now) (sideOf (c .before .before .before .before .before .args .side)) (sym (c .before .before .before .is-known .ensures) ∙ not-false _ (c .before .before .if1 .left)) (omega arith) in
     record { refusal = ap refusalOf (sym is); keys = c .blank2 .ensures ∙ ap keysGiven (sym is) }
-
-secret-of-requires : tie.Need-secret-of-requires
-secret-of-requires c κs = search needs
-
-keys-from-requires : tie.Need-keys-from-requires
-keys-from-requires c κs = search needs
 
 returns-3 : tie.Need-returns-3
 returns-3 c =
@@ -44,11 +29,11 @@ pub initial-keys-spec : {M : Type 1} → statement M
 initial-keys-spec =
     tie.close
     (tie.spec
-    is-known-requires
-    blank-requires
+    (λ c κs. search needs)
+    (λ c κs. search needs)
     returns
-    blank-requires-2
+    (λ c κs. search needs)
     returns-2
-    secret-of-requires
-    keys-from-requires
+    (λ c κs. search needs)
+    (λ c κs. search needs)
     returns-3)

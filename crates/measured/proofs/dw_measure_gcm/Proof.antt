@@ -15,46 +15,10 @@ returns-2 c =
     let a = c .before .before .before .before .before .args in
     wide-text (a .schedule .now) (a .nonce .now) (a .associated .now) (a .text .now) (a .out .now) (omega arith) (omega arith)
 
-add-if3 : tie.Need-add-if3
-add-if3 c = search needs
-
 returns-3 : tie.Need-returns-3
 returns-3 c =
     let a = c .before .before .before .before .before .before .args in
     no-room (a .schedule .now) (a .nonce .now) (a .associated .now) (a .text .now) (a .out .now) (omega arith) (omega arith) (omega arith)
-
-crypt-requires : tie.Need-crypt-requires
-crypt-requires c κs = search needs
-
-hash-key-requires : tie.Need-hash-key-requires
-hash-key-requires c κs = search needs
-
-slice-aggregate-make-tag : tie.Need-slice-aggregate-make-tag
-slice-aggregate-make-tag c = search needs
-
-slice-aggregate-make-tag-2 : tie.Need-slice-aggregate-make-tag-2
-slice-aggregate-make-tag-2 c = search needs
-
-sub-make-tag : tie.Need-sub-make-tag
-sub-make-tag c = search needs
-
-part-make-tag-start : tie.Need-part-make-tag-start
-part-make-tag-start c = search needs
-
-part-make-tag-end : tie.Need-part-make-tag-end
-part-make-tag-end c = search needs
-
-make-tag-requires : tie.Need-make-tag-requires
-make-tag-requires c κs = search needs
-
-slice-aggregate-copy : tie.Need-slice-aggregate-copy
-slice-aggregate-copy c = search needs
-
-copy-requires : tie.Need-copy-requires
-copy-requires c κs = search needs
-
-same-length : tie.Need-same-length
-same-length c = search needs
 
 returns-4 : tie.Need-returns-4
 returns-4 c =
@@ -72,17 +36,17 @@ dw-measure-gcm-spec =
     (tie.spec
     returns
     returns-2
-    add-if3
+    (λ c. search needs)
     returns-3
-    crypt-requires
-    hash-key-requires
-    slice-aggregate-make-tag
-    slice-aggregate-make-tag-2
-    sub-make-tag
-    part-make-tag-start
-    part-make-tag-end
-    make-tag-requires
-    slice-aggregate-copy
-    copy-requires
-    same-length
+    (λ c κs. search needs)
+    (λ c κs. search needs)
+    (λ c. search needs)
+    (λ c. search needs)
+    (λ c. search needs)
+    (λ c. search needs)
+    (λ c. search needs)
+    (λ c κs. search needs)
+    (λ c. search needs)
+    (λ c κs. search needs)
+    (λ c. search needs)
     returns-4)

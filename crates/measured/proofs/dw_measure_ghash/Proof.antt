@@ -6,38 +6,11 @@ use Prim.Native.Nat.{_-_, _*_, _/_}
 use lib.ListN.{length}
 use lib.Seq.{take-all}
 use Rattle.octets.specs.Octets.{bytes, number}
-use Rattle.gcm.specs.Table.{keyOf}
-use Rattle.gcm.specs.Hash.{state}
+use Rattle.gcm_table.specs.Table.{keyOf}
+use Rattle.gcm_hash.specs.Hash.{state}
 use Rattle.measured.proofs.Blocks.{stream-is}
 use Rattle.measured.proofs.dw_measure_ghash.Statement.{statement}
 use Rattle.measured.proofs.dw_measure_ghash.Tie as tie
-
-load-block-requires : tie.Need-load-block-requires
-load-block-requires c κs = search needs
-
-make-table-requires : tie.Need-make-table-requires
-make-table-requires c κs = search needs
-
-mul-whole : tie.Need-mul-whole
-mul-whole c = search needs
-
-begin-requires : tie.Need-begin-requires
-begin-requires c κs = search needs
-
-sub-absorb : tie.Need-sub-absorb
-sub-absorb c = search needs
-
-part-absorb-start : tie.Need-part-absorb-start
-part-absorb-start c = search needs
-
-part-absorb-end : tie.Need-part-absorb-end
-part-absorb-end c = search needs
-
-absorb-requires : tie.Need-absorb-requires
-absorb-requires c κs = search needs
-
-spelled-requires : tie.Need-spelled-requires
-spelled-requires c κs = search needs
 
 returns : tie.Need-returns
 returns c =
@@ -58,13 +31,13 @@ pub dw-measure-ghash-spec : {M : Type 1} → statement M
 dw-measure-ghash-spec =
     tie.close
     (tie.spec
-    load-block-requires
-    make-table-requires
-    mul-whole
-    begin-requires
-    sub-absorb
-    part-absorb-start
-    part-absorb-end
-    absorb-requires
-    spelled-requires
+    (λ c κs. search needs)
+    (λ c κs. search needs)
+    (λ c. search needs)
+    (λ c κs. search needs)
+    (λ c. search needs)
+    (λ c. search needs)
+    (λ c. search needs)
+    (λ c κs. search needs)
+    (λ c κs. search needs)
     returns)

@@ -4,7 +4,7 @@ use mathlib.Core.Path.{ap, _∙_}
 use borrow.Author.Needs.{needs}
 use lib.Seq.{take-all}
 use Rattle.octets.specs.Octets.{bytes, number}
-use Rattle.gcm.specs.Hash.{ghash}
+use Rattle.gcm_hash.specs.Hash.{ghash}
 use Rattle.measured.proofs.dw_measure_ghash_by_bits.Statement.{statement}
 use Rattle.measured.proofs.dw_measure_ghash_by_bits.Tie as tie
 

@@ -4,9 +4,6 @@ use native.Mathlib.Omega.{arith}
 use Rattle.open.proofs.expected_after.Statement.{statement}
 use Rattle.open.proofs.expected_after.Tie as tie
 
-add-next : tie.Need-add-next
-add-next c = search needs
-
 returns : tie.Need-returns
 returns c = omega arith
 
@@ -14,4 +11,4 @@ returns-2 : tie.Need-returns-2
 returns-2 c = omega arith
 
 pub expected-after-spec : {M : Type 1} → statement M
-expected-after-spec = tie.close (tie.spec add-next returns returns-2)
+expected-after-spec = tie.close (tie.spec (λ c. search needs) returns returns-2)

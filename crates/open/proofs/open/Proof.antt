@@ -5,16 +5,10 @@ use borrow.Author.Tests.{not-true, not-false}
 use native.Mathlib.Omega.{arith}
 use lib.ListN.{length}
 use Rattle.packets.specs.KeyRecord.{keysOf}
-use Rattle.open.specs.Found.{Finds}
+use Rattle.open_judging.specs.Found.{Finds}
 use Rattle.open.proofs.Answers.{refuses, tag-refused, opens}
 use Rattle.open.proofs.open.Statement.{statement}
 use Rattle.open.proofs.open.Tie as tie
-
-find-requires : tie.Need-find-requires
-find-requires c κs = search needs
-
-enum-known-why : tie.Need-enum-known-why
-enum-known-why c = search needs
 
 returns : tie.Need-returns
 returns c =
@@ -22,15 +16,6 @@ returns c =
     let a = f .before .before .before .before .args in
     refuses (keysOf (a .keys)) (a .datagram .now) (a .expected .now) (a .out .now)
     (subst (Finds (keysOf (a .keys)) (a .expected .now) (a .datagram .now) (length (a .out .now))) (c .before .why .given .1) (f .find .ensures))
-
-enum-known-packet : tie.Need-enum-known-packet
-enum-known-packet c = search needs
-
-expand-key-requires : tie.Need-expand-key-requires
-expand-key-requires c κs = search needs
-
-nonce-of-requires : tie.Need-nonce-of-requires
-nonce-of-requires c κs = search needs
 
 tag-matches-requires : tie.Need-tag-matches-requires
 tag-matches-requires c κs =
@@ -62,9 +47,6 @@ expected-after-requires c κs =
     let f = subst (Finds (keysOf (a .keys)) (a .expected .now) (a .datagram .now) (length (a .out .now))) (p .packet .given .1) (p .before .before .find .ensures) in
     f .small
 
-same-length : tie.Need-same-length
-same-length c = search needs
-
 returns-3 : tie.Need-returns-3
 returns-3 c =
     let p = c .before .before .before .before .before .before .before .before .before .before .before .before .before .before .before .before .before .before .before in
@@ -78,15 +60,15 @@ pub open-spec : {M : Type 1} → statement M
 open-spec =
     tie.close
     (tie.spec
-    find-requires
-    enum-known-why
+    (λ c κs. search needs)
+    (λ c. search needs)
     returns
-    enum-known-packet
-    expand-key-requires
-    nonce-of-requires
+    (λ c. search needs)
+    (λ c κs. search needs)
+    (λ c κs. search needs)
     tag-matches-requires
     returns-2
     write-opened-requires
     expected-after-requires
-    same-length
+    (λ c. search needs)
     returns-3)

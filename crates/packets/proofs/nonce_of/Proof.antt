@@ -10,21 +10,6 @@ use Rattle.packets.proofs.Filled.{combined}
 use Rattle.packets.proofs.nonce_of.Statement.{statement}
 use Rattle.packets.proofs.nonce_of.Tie as tie
 
-slice-aggregate-store : tie.Need-slice-aggregate-store
-slice-aggregate-store c = search needs
-
-store-requires : tie.Need-store-requires
-store-requires c κs = search needs
-
-slice-aggregate-copy-masked : tie.Need-slice-aggregate-copy-masked
-slice-aggregate-copy-masked c = search needs
-
-slice-aggregate-copy-masked-2 : tie.Need-slice-aggregate-copy-masked-2
-slice-aggregate-copy-masked-2 c = search needs
-
-copy-masked-requires : tie.Need-copy-masked-requires
-copy-masked-requires c κs = search needs
-
 returns : tie.Need-returns
 returns c =
     let a = c .before .before .before .before .before .before .before .before .args in
@@ -35,9 +20,9 @@ pub nonce-of-spec : {M : Type 1} → statement M
 nonce-of-spec =
     tie.close
     (tie.spec
-    slice-aggregate-store
-    store-requires
-    slice-aggregate-copy-masked
-    slice-aggregate-copy-masked-2
-    copy-masked-requires
+    (λ c. search needs)
+    (λ c κs. search needs)
+    (λ c. search needs)
+    (λ c. search needs)
+    (λ c κs. search needs)
     returns)

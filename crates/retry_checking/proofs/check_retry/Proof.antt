@@ -5,28 +5,20 @@ use borrow.Author.Needs.{needs}
 use borrow.Author.Tests.{not-true, not-false}
 use native.Mathlib.Omega.{arith}
 use lib.Seq.{length-take-le}
-use Rattle.wire.specs.HeaderAnswers.{foundAnswer, longAnswer}
+use Rattle.header_fields.specs.Answers.{foundAnswer}
+use Rattle.header_long.specs.Answers.{longAnswer}
 use Rattle.octets.proofs.Parts.{front-short, to-end}
-use Rattle.wire.proofs.Headers.{long-there}
+use Rattle.header_long.proofs.LongHeaders.{long-there}
 use Rattle.octets.specs.Octets.{same}
 use Rattle.retry_checking.proofs.Refusals.{token-there, check-long-original, check-no-long, check-no-token, check-other-tag, check-given}
 use Rattle.retry_checking.proofs.check_retry.Statement.{statement}
 use Rattle.retry_checking.proofs.check_retry.Tie as tie
 
 returns : tie.Need-returns
-returns c = record { answer = sym (check-long-original _ _ (omega arith)) }
-
-read-long-requires : tie.Need-read-long-requires
-read-long-requires c κs = search needs
-
-enum-known-why : tie.Need-enum-known-why
-enum-known-why c = search needs
+returns c = record { answer = sym (check-long-original _ _ (c .if1 .taken)) }
 
 returns-2 : tie.Need-returns-2
-returns-2 c = record { answer = sym (check-no-long _ _ (omega arith) (sym (ap longAnswer (c .before .why .given .1)) ∙ c .before .before .before .read-long .ensures)) }
-
-enum-known-long : tie.Need-enum-known-long
-enum-known-long c = search needs
+returns-2 c = record { answer = sym (check-no-long _ _ (c .before .before .before .before .if1 .left) (sym (ap longAnswer (c .before .why .given .1)) ∙ c .before .before .before .read-long .ensures)) }
 
 add-token-at : tie.Need-add-token-at
 add-token-at c =
@@ -39,16 +31,10 @@ token-at-requires c κs =
     let long = sym (ap longAnswer (c .before .before .before .before .long .given .1)) ∙ c .before .before .before .before .before .before .read-long .ensures in
     long-there _ _ _ long .source .inside
 
-enum-known-why-2 : tie.Need-enum-known-why-2
-enum-known-why-2 c = search needs
-
 returns-3 : tie.Need-returns-3
 returns-3 c =
     let long = sym (ap longAnswer (c .before .before .before .before .before .before .before .before .long .given .1)) ∙ c .before .before .before .before .before .before .before .before .before .before .read-long .ensures in
-    record { answer = sym (check-no-token _ _ (omega arith) long (sym (ap foundAnswer (c .before .why2 .given .1)) ∙ c .before .before .before .token-at .ensures)) }
-
-enum-known-place : tie.Need-enum-known-place
-enum-known-place c = search needs
+    record { answer = sym (check-no-token _ _ (c .before .before .before .before .before .before .before .before .before .before .before .if1 .left) long (sym (ap foundAnswer (c .before .why2 .given .1)) ∙ c .before .before .before .token-at .ensures)) }
 
 add-tag-at : tie.Need-add-tag-at
 add-tag-at c =
@@ -68,7 +54,7 @@ tag-of-requires c κs =
     let there = long-there _ _ _ long in
     let token = sym (ap foundAnswer (c .before .before .before .place .given .1)) ∙ c .before .before .before .before .before .token-at .ensures in
     let end = token-there _ _ token in
-    (omega arith, front-short (c .before .before .before .place .given .0 .0 .at + c .before .before .before .place .given .0 .0 .len) _ (omega (arith, there .right .there .fits)))
+    (c .before .before .before .before .before .before .before .before .before .before .before .before .before .if1 .left, front-short (c .before .before .before .place .given .0 .0 .at + c .before .before .before .place .given .0 .0 .len) _ (omega (arith, there .right .there .fits)))
 
 sub-same-tag : tie.Need-sub-same-tag
 sub-same-tag c =
@@ -82,48 +68,39 @@ part-same-tag-start c =
     let end = token-there _ _ token in
     omega arith
 
-part-same-tag-end : tie.Need-part-same-tag-end
-part-same-tag-end c = search needs
-
-slice-aggregate-same-tag : tie.Need-slice-aggregate-same-tag
-slice-aggregate-same-tag c = search needs
-
-same-tag-requires : tie.Need-same-tag-requires
-same-tag-requires c κs = search needs
-
 returns-4 : tie.Need-returns-4
 returns-4 c =
     let long = sym (ap longAnswer (c .before .before .before .before .before .before .before .before .before .before .before .before .before .before .before .long .given .1)) ∙ c .before .before .before .before .before .before .before .before .before .before .before .before .before .before .before .before .before .read-long .ensures in
     let token = sym (ap foundAnswer (c .before .before .before .before .before .before .before .before .place .given .1)) ∙ c .before .before .before .before .before .before .before .before .before .before .token-at .ensures in
-    record { answer = sym (check-other-tag _ _ (omega arith) long token (sym (c .before .same-tag .ensures ∙ ap₂ same (to-end (c .before .before .before .before .before .before .before .before .before .before .before .before .before .before .before .before .before .before .before .before .before .args .datagram .now) (c .before .before .before .before .before .before .before .before .place .given .0 .0 .at + c .before .before .before .before .before .before .before .before .place .given .0 .0 .len)) (c .before .before .before .before .tag-of .ensures)) ∙ not-true _ (c .if2 .taken))) }
+    record { answer = sym (check-other-tag _ _ (c .before .before .before .before .before .before .before .before .before .before .before .before .before .before .before .before .before .before .if1 .left) long token (sym (c .before .same-tag .ensures ∙ ap₂ same (to-end (c .before .before .before .before .before .before .before .before .before .before .before .before .before .before .before .before .before .before .before .before .before .args .datagram .now) (c .before .before .before .before .before .before .before .before .place .given .0 .0 .at + c .before .before .before .before .before .before .before .before .place .given .0 .0 .len)) (c .before .before .before .before .tag-of .ensures)) ∙ not-true _ (c .if2 .taken))) }
 
 returns-5 : tie.Need-returns-5
 returns-5 c =
     let long = sym (ap longAnswer (c .before .before .before .before .before .before .before .before .before .before .before .before .before .before .before .long .given .1)) ∙ c .before .before .before .before .before .before .before .before .before .before .before .before .before .before .before .before .before .read-long .ensures in
     let token = sym (ap foundAnswer (c .before .before .before .before .before .before .before .before .place .given .1)) ∙ c .before .before .before .before .before .before .before .before .before .before .token-at .ensures in
-    record { answer = sym (check-given _ _ (omega arith) long token (sym (c .before .same-tag .ensures ∙ ap₂ same (to-end (c .before .before .before .before .before .before .before .before .before .before .before .before .before .before .before .before .before .before .before .before .before .args .datagram .now) (c .before .before .before .before .before .before .before .before .place .given .0 .0 .at + c .before .before .before .before .before .before .before .before .place .given .0 .0 .len)) (c .before .before .before .before .tag-of .ensures)) ∙ not-false _ (c .if2 .left))) }
+    record { answer = sym (check-given _ _ (c .before .before .before .before .before .before .before .before .before .before .before .before .before .before .before .before .before .before .if1 .left) long token (sym (c .before .same-tag .ensures ∙ ap₂ same (to-end (c .before .before .before .before .before .before .before .before .before .before .before .before .before .before .before .before .before .before .before .before .before .args .datagram .now) (c .before .before .before .before .before .before .before .before .place .given .0 .0 .at + c .before .before .before .before .before .before .before .before .place .given .0 .0 .len)) (c .before .before .before .before .tag-of .ensures)) ∙ not-false _ (c .if2 .left))) }
 
 pub check-retry-spec : {M : Type 1} → statement M
 check-retry-spec =
     tie.close
     (tie.spec
     returns
-    read-long-requires
-    enum-known-why
+    (λ c κs. search needs)
+    (λ c. search needs)
     returns-2
-    enum-known-long
+    (λ c. search needs)
     add-token-at
     token-at-requires
-    enum-known-why-2
+    (λ c. search needs)
     returns-3
-    enum-known-place
+    (λ c. search needs)
     add-tag-at
     slice-aggregate-tag-of
     tag-of-requires
     sub-same-tag
     part-same-tag-start
-    part-same-tag-end
-    slice-aggregate-same-tag
-    same-tag-requires
+    (λ c. search needs)
+    (λ c. search needs)
+    (λ c κs. search needs)
     returns-4
     returns-5)

@@ -6,9 +6,6 @@ use Rattle.retry_checking.proofs.Refusals.{token-no-tag, token-none, to
 use Rattle.retry_checking.proofs.token_at.Statement.{statement}
 use Rattle.retry_checking.proofs.token_at.Tie as tie
 
-sub-behind : tie.Need-sub-behind
-sub-behind c = search needs
-
 returns : tie.Need-returns
 returns c = sym (token-no-tag _ _ (omega arith))
 
@@ -19,4 +16,4 @@ returns-3 : tie.Need-returns-3
 returns-3 c = sym (token-found _ _ (omega arith) (omega arith))
 
 pub token-at-spec : {M : Type 1} → statement M
-token-at-spec = tie.close (tie.spec sub-behind returns returns-2 returns-3)
+token-at-spec = tie.close (tie.spec (λ c. search needs) returns returns-2 returns-3)

@@ -5,15 +5,12 @@ use borrow.Author.Needs.{needs}
 use native.Mathlib.Omega.{arith}
 use lib.ListN.{length}
 use lib.Seq.{length-take-le}
-use Rattle.writing.proofs.Forms.{long-length}
-use Rattle.wire.proofs.Versions.{retry-fits}
+use Rattle.header_writing.proofs.Forms.{long-length}
+use Rattle.versions.proofs.Versions.{retry-fits}
 use Rattle.octets.proofs.Parts.{front-short}
 use Rattle.retry_writing.proofs.Packets.{token-laid, tag-laid}
 use Rattle.retry_writing.proofs.write_packet.Statement.{statement}
 use Rattle.retry_writing.proofs.write_packet.Tie as tie
-
-retry-type-requires : tie.Need-retry-type-requires
-retry-type-requires c κs = search needs
 
 mul-first : tie.Need-mul-first
 mul-first c = omega (arith, c .retry-type .ensures, retry-fits (c .before .before .before .before .before .before .args .number))
@@ -21,14 +18,8 @@ mul-first c = omega (arith, c .retry-type .ensures, retry-fits (c .before .befor
 add-first : tie.Need-add-first
 add-first c = omega (arith, c .retry-type .ensures, retry-fits (c .before .before .before .before .before .before .args .number))
 
-cast-first : tie.Need-cast-first
-cast-first c = search needs
-
 add-first-2 : tie.Need-add-first-2
 add-first-2 c = omega (arith, c .retry-type .ensures, retry-fits (c .before .before .before .before .before .before .args .number))
-
-write-long-requires : tie.Need-write-long-requires
-write-long-requires c κs = search needs
 
 copy-requires : tie.Need-copy-requires
 copy-requires c κs =
@@ -55,9 +46,6 @@ tag-of-requires c κs =
     let size = long-length (c .before .before .before .before .before .before .before .before .before .before .before .before .before .before .before .args .number) (c .before .before .before .before .before .before .before .before .before .before .before .before .before .before .before .args .destination .now) (c .before .before .before .before .before .before .before .before .before .before .before .before .before .before .before .args .source .now) in
     (c .before .before .before .before .before .before .before .before .before .before .before .before .before .before .before .pre .short-original, front-short (c .before .before .before .before .before .before .before .write-long .result + length (c .before .before .before .before .before .before .before .before .before .before .before .before .before .before .before .args .token .now)) _ (omega (arith, c .before .before .before .before .before .before .before .write-long .ensures .ends, c .before .before .before .before .before .before .before .write-long .kept)))
 
-slice-aggregate-copy : tie.Need-slice-aggregate-copy
-slice-aggregate-copy c = search needs
-
 copy-requires-2 : tie.Need-copy-requires-2
 copy-requires-2 c κs =
     let size = long-length (c .before .before .before .before .before .before .before .before .before .before .before .before .before .before .before .before .before .before .args .number) (c .before .before .before .before .before .before .before .before .before .before .before .before .before .before .before .before .before .before .args .destination .now) (c .before .before .before .before .before .before .before .before .before .before .before .before .before .before .before .before .before .before .args .source .now) in
@@ -67,9 +55,6 @@ add-result : tie.Need-add-result
 add-result c =
     let size = long-length (c .before .before .before .before .before .before .before .before .before .before .before .before .before .before .before .before .before .before .before .before .before .args .number) (c .before .before .before .before .before .before .before .before .before .before .before .before .before .before .before .before .before .before .before .before .before .args .destination .now) (c .before .before .before .before .before .before .before .before .before .before .before .before .before .before .before .before .before .before .before .before .before .args .source .now) in
     omega (arith, c .before .before .before .before .before .before .before .before .before .before .before .before .before .write-long .ensures .ends, c .before .before .before .before .before .before .before .before .before .before .before .before .before .write-long .kept)
-
-same-length : tie.Need-same-length
-same-length c = search needs
 
 returns : tie.Need-returns
 returns c =
@@ -81,19 +66,19 @@ pub write-packet-spec : {M : Type 1} → statement M
 write-packet-spec =
     tie.close
     (tie.spec
-    retry-type-requires
+    (λ c κs. search needs)
     mul-first
     add-first
-    cast-first
+    (λ c. search needs)
     add-first-2
-    write-long-requires
+    (λ c κs. search needs)
     copy-requires
     add-tag-at
     slice-reshare-prefix-tag-of
     slice-aggregate-tag-of
     tag-of-requires
-    slice-aggregate-copy
+    (λ c. search needs)
     copy-requires-2
     add-result
-    same-length
+    (λ c. search needs)
     returns)

@@ -8,9 +8,6 @@ use Rattle.retry_writing.proofs.Promises.{write-refused, write-made}
 use Rattle.retry_writing.proofs.write_retry.Statement.{statement}
 use Rattle.retry_writing.proofs.write_retry.Tie as tie
 
-is-known-requires : tie.Need-is-known-requires
-is-known-requires c κs = search needs
-
 returns : tie.Need-returns
 returns c = write-refused (write-unknown _ _ _ _ _ _ _ (sym (c .before .is-known .ensures) ∙ not-true _ (c .if1 .taken)))
 
@@ -26,32 +23,11 @@ returns-4 c = write-refused (write-long-source _ _ _ _ _ _ _ (sym (c .before .be
 returns-5 : tie.Need-returns-5
 returns-5 c = write-refused (write-no-token _ _ _ _ _ _ _ (sym (c .before .before .before .before .before .is-known .ensures) ∙ not-false _ (c .before .before .before .before .if1 .left)) (c .before .before .before .if2 .left) (c .before .before .if3 .left) (c .before .if4 .left) (c .if5 .taken))
 
-add-beside-token : tie.Need-add-beside-token
-add-beside-token c = search needs
-
-add-beside-token-2 : tie.Need-add-beside-token-2
-add-beside-token-2 c = search needs
-
-add-beside-token-3 : tie.Need-add-beside-token-3
-add-beside-token-3 c = search needs
-
-sub-if6 : tie.Need-sub-if6
-sub-if6 c = search needs
-
 returns-6 : tie.Need-returns-6
 returns-6 c = write-refused (write-large _ _ _ _ _ _ _ (sym (c .before .before .before .before .before .before .is-known .ensures) ∙ not-false _ (c .before .before .before .before .before .if1 .left)) (c .before .before .before .before .if2 .left) (c .before .before .before .if3 .left) (c .before .before .if4 .left) (c .before .if5 .left) (omega arith))
 
-add-size : tie.Need-add-size
-add-size c = search needs
-
 returns-7 : tie.Need-returns-7
 returns-7 c = write-refused (write-no-room _ _ _ _ _ _ _ (sym (c .before .before .before .before .before .before .before .is-known .ensures) ∙ not-false _ (c .before .before .before .before .before .before .if1 .left)) (c .before .before .before .before .before .if2 .left) (c .before .before .before .before .if3 .left) (c .before .before .before .if4 .left) (c .before .before .if5 .left) (omega arith) (omega arith))
-
-write-packet-requires : tie.Need-write-packet-requires
-write-packet-requires c κs = search needs
-
-same-length : tie.Need-same-length
-same-length c = search needs
 
 returns-8 : tie.Need-returns-8
 returns-8 c = write-made (write-given _ _ _ _ _ _ _ (sym (c .before .before .before .before .before .before .before .before .before .before .before .is-known .ensures) ∙ not-false _ (c .before .before .before .before .before .before .before .before .before .before .if1 .left)) (c .before .before .before .before .before .before .before .before .before .if2 .left) (c .before .before .before .before .before .before .before .before .if3 .left) (c .before .before .before .before .before .before .before .if4 .left) (c .before .before .before .before .before .before .if5 .left) (omega arith) (omega arith)) (c .before .before .write-packet .ensures)
@@ -60,19 +36,19 @@ pub write-retry-spec : {M : Type 1} → statement M
 write-retry-spec =
     tie.close
     (tie.spec
-    is-known-requires
+    (λ c κs. search needs)
     returns
     returns-2
     returns-3
     returns-4
     returns-5
-    add-beside-token
-    add-beside-token-2
-    add-beside-token-3
-    sub-if6
+    (λ c. search needs)
+    (λ c. search needs)
+    (λ c. search needs)
+    (λ c. search needs)
     returns-6
-    add-size
+    (λ c. search needs)
     returns-7
-    write-packet-requires
-    same-length
+    (λ c κs. search needs)
+    (λ c. search needs)
     returns-8)

@@ -6,7 +6,7 @@ use borrow.Author.Needs.{needs}
 use native.Mathlib.Omega.{arith}
 use lib.ListN.{take}
 use Rattle.octets.specs.Octets.{laid}
-use Rattle.writing.specs.Written.{Plain}
+use Rattle.header_writing.specs.Written.{Plain}
 use Rattle.packets.specs.KeyRecord.{keysOf}
 use Rattle.packets.specs.Packet.{bodyWith}
 use Rattle.packets.specs.AesGcm.{aesGcm}
@@ -14,12 +14,6 @@ use Rattle.packets.proofs.Sealing.{front-length}
 use Rattle.seal.proofs.Protecting.{protected-laid}
 use Rattle.seal.proofs.write_packet.Statement.{statement}
 use Rattle.seal.proofs.write_packet.Tie as tie
-
-write-header-requires : tie.Need-write-header-requires
-write-header-requires c κs = search needs
-
-nonce-of-requires : tie.Need-nonce-of-requires
-nonce-of-requires c κs = search needs
 
 add-write-body : tie.Need-add-write-body
 add-write-body c =
@@ -48,12 +42,9 @@ protect-requires c κs =
     let p : Plain = record { destination = a .destination .now; source = a .source .now; token = a .token .now; payload = a .payload .now; packetNumber = a .number; numberLength = a .count } in
     let size = front-length (a .keys .version) p in (
       omega (arith, c .before .before .before .before .before .before .before .before .before .before .before .before .before .before .write-header .ensures .stands),
-      omega arith,
+      c .before .before .before .before .before .before .before .before .before .before .before .before .before .before .before .before .before .before .before .before .before .before .before .before .pre .sealable .short,
       omega (arith, c .before .before .before .before .before .before .before .before .before .before .before .before .before .before .write-header .ensures .stands, c .before .before .before .before .before .before .before .before .before .before .before .before .before .before .write-header .kept .1 .1 .1 .1 .1 .1 .1 .0, c .before .before .before .before .before .before .write-body .kept .1 .1 .1 .0),
     )
-
-same-length : tie.Need-same-length
-same-length c = search needs
 
 returns : tie.Need-returns
 returns c =
@@ -64,18 +55,18 @@ returns c =
     let one = header .last .1 .1 .1 .1 .1 .1 .1 .0 in
     let body = c .before .before .before .before .before .before .before .before .before .write-body .ensures
     ∙ ap (λ (once : List ℕ). laid one at (bodyWith aesGcm (a .keys .key) once (take at one) (a .payload .now))) (c .before .before .before .before .before .before .before .before .before .before .before .before .before .nonce-of .ensures) in
-    protected-laid (keysOf (a .keys)) p (a .buffer .now) one _ _ _ (header .result) (c .before .before .before .before .before .before .before .before .before .before .before .before .before .before .before .before .before .before .before .before .before .before .before .before .before .before .before .pre .enough) (header .ensures .stands) (header .ensures .holds)
+    protected-laid (keysOf (a .keys)) p (a .buffer .now) one _ _ _ (header .result) (c .before .before .before .before .before .before .before .before .before .before .before .before .before .before .before .before .before .before .before .before .before .before .before .before .before .before .before .pre .sealable .enough) (header .ensures .stands) (header .ensures .holds)
     body (c .before .before .before .before .mask-of .ensures) (c .before .before .protect .ensures)
 
 pub write-packet-spec : {M : Type 1} → statement M
 write-packet-spec =
     tie.close
     (tie.spec
-    write-header-requires
-    nonce-of-requires
+    (λ c κs. search needs)
+    (λ c κs. search needs)
     add-write-body
     write-body-requires
     mask-of-requires
     protect-requires
-    same-length
+    (λ c. search needs)
     returns)

@@ -10,40 +10,22 @@ use Rattle.sha256.proofs.absorb.Statement.{statement}
 use Rattle.sha256.proofs.absorb.Tie as tie
 
 abbrev Inv-loop : tie.InvT-loop
-Inv-loop message value₀ at₀ value at = (at ≤ length message) × (absorbed value (drop at message) ≡ absorbed value₀ message)
+Inv-loop k message value₀ at₀ value at = (at ≤ length message) × (absorbed value (drop at message) ≡ absorbed value₀ message)
 
 abbrev μ-loop : tie.MeasureT-loop
-μ-loop message value₀ at₀ value at = length message - at
+μ-loop k message value₀ at₀ value at = length message - at
 
 loop-holds : tie.Need-loop-holds Inv-loop μ-loop
 loop-holds c = (omega arith, refl)
 
-sub-loop : tie.Need-sub-loop Inv-loop μ-loop
-sub-loop c = search needs
-
-add-end : tie.Need-add-end Inv-loop μ-loop
-add-end c = search needs
-
-sub-compress : tie.Need-sub-compress Inv-loop μ-loop
-sub-compress c = search needs
-
-part-compress-start : tie.Need-part-compress-start Inv-loop μ-loop
-part-compress-start c = search needs
-
-part-compress-end : tie.Need-part-compress-end Inv-loop μ-loop
-part-compress-end c = search needs
-
-compress-requires : tie.Need-compress-requires Inv-loop μ-loop
-compress-requires c κs = simp (length-take, length-drop) (omega arith)
-
-loop-less : tie.Need-loop-less Inv-loop μ-loop
-loop-less c = search needs
+compress-with-requires : tie.Need-compress-with-requires Inv-loop μ-loop
+compress-with-requires c κs = (search needs, simp (length-take, length-drop) (omega arith))
 
 loop-again : tie.Need-loop-again Inv-loop μ-loop
 loop-again c =
     let l = c .before .before .before .loop in
     let m = c .before .before .before .before .before .args .message .now in
-    (omega arith, absorbed-turn (l .value) m _ (l .at) (l .at + 64 - l .at) (omega arith) (omega arith) (c .compress .ensures) ∙ l .inv .1)
+    (omega arith, absorbed-turn (l .value) m _ (l .at) (l .at + 64 - l .at) (omega arith) (omega arith) (c .compress-with .ensures) ∙ l .inv .1)
 
 returns : tie.Need-returns Inv-loop μ-loop
 returns c =
@@ -58,12 +40,12 @@ absorb-spec =
     Inv-loop
     μ-loop
     loop-holds
-    sub-loop
-    add-end
-    sub-compress
-    part-compress-start
-    part-compress-end
-    compress-requires
-    loop-less
+    (λ c. search needs)
+    (λ c. search needs)
+    (λ c. search needs)
+    (λ c. search needs)
+    (λ c. search needs)
+    compress-with-requires
+    (λ c. search needs)
     loop-again
     returns)

@@ -7,16 +7,10 @@ use Rattle.sha256.proofs.Blocks.{hash-at-once}
 use Rattle.sha256.proofs.hash.Statement.{statement}
 use Rattle.sha256.proofs.hash.Tie as tie
 
-initial-requires : tie.Need-initial-requires
-initial-requires c κs = search needs
-
-finish-requires : tie.Need-finish-requires
-finish-requires c κs = search needs
-
 returns : tie.Need-returns
 returns c =
     let m = c .before .before .before .args .message .now in
     c .finish .ensures ∙ ap (λ (h : List _). finished h 0 m) (c .before .initial .ensures) ∙ hash-at-once m
 
 pub hash-spec : {M : Type 1} → statement M
-hash-spec = tie.close (tie.spec initial-requires finish-requires returns)
+hash-spec = tie.close (tie.spec (λ c κs. search needs) (λ c κs. search needs) returns)

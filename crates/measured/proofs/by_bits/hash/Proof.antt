@@ -5,9 +5,8 @@ use native.Mathlib.Omega.{arith}
 use borrow.Author.Needs.{needs}
 use lib.Bits.{bitXor}
 use lib.ListN.{length}
-use Rattle.gcm.specs.Field.{_•_}
-use Rattle.gcm.specs.Table.{num}
-use Rattle.gcm.specs.Hash.{ghash}
+use Rattle.gcm_field.specs.Field.{_•_, num}
+use Rattle.gcm_hash.specs.Hash.{ghash}
 use Rattle.measured.proofs.ByBits.{onFrom, hash-start, hash-turn, hash-end}
 use Rattle.measured.proofs.by_bits.hash.Statement.{statement}
 use Rattle.measured.proofs.by_bits.hash.Tie as tie

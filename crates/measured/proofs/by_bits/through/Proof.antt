@@ -4,8 +4,7 @@ use mathlib.Core.Path.{_≡_, refl, ap, _∙_}
 use native.Mathlib.Omega.{arith}
 use borrow.Author.Needs.{needs}
 use lib.Bits.{bitXor}
-use Rattle.gcm.specs.Field.{steps}
-use Rattle.gcm.specs.Table.{num, nexts}
+use Rattle.gcm_field.specs.Field.{steps, num, nexts}
 use Rattle.measured.proofs.ByBits.{steps-turn, nexts-turn}
 use Rattle.measured.proofs.by_bits.through.Statement.{statement}
 use Rattle.measured.proofs.by_bits.through.Tie as tie

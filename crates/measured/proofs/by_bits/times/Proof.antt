@@ -3,8 +3,7 @@ use mathlib.Core.Path.{ap₂, _∙_}
 use Prim.Native.Nat.{ℕ}
 use native.Mathlib.Omega.{arith}
 use borrow.Author.Needs.{needs}
-use Rattle.gcm.specs.Field.{steps}
-use Rattle.gcm.specs.Table.{num}
+use Rattle.gcm_field.specs.Field.{steps, num}
 use Rattle.measured.proofs.ByBits.{both-words}
 use Rattle.measured.proofs.by_bits.times.Statement.{statement}
 use Rattle.measured.proofs.by_bits.times.Tie as tie

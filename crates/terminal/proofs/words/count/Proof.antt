@@ -1,38 +1,39 @@
--- There are no more words than characters passed.
-use Prim.Native.Nat.{_-_, _≤_}
+-- The words that start among the characters passed are counted, and there are no more of them than characters.
+use Prim.Native.Nat.{ℕ, _+_, _-_, _≤_}
 use mathlib.Core.Logic.{⊎-elim}
+use mathlib.Core.Path.{_≡_, refl, sym, ap, _∙_}
 use native.Mathlib.Omega.{arith}
 use borrow.Author.Needs.{needs}
 use lib.ListN.{length}
+use Rattle.terminal.specs.Words.{wordsUpTo}
+use Rattle.terminal.proofs.Separators.{count-one, count-none}
 use Rattle.terminal.proofs.words.count.Statement.{statement}
 use Rattle.terminal.proofs.words.count.Tie as tie
 
 abbrev Inv-loop : tie.InvT-loop
-Inv-loop text separator words₀ at₀ words at = (at ≤ length text) × (words ≤ at)
+Inv-loop text separator words₀ at₀ words at = (at ≤ length text) × (words ≤ at) × (words ≡ wordsUpTo separator text at)
 
 abbrev μ-loop : tie.MeasureT-loop
 μ-loop text separator words₀ at₀ words at = length text - at
 
 loop-holds : tie.Need-loop-holds Inv-loop μ-loop
-loop-holds c = search needs
-
-starts-requires : tie.Need-starts-requires Inv-loop μ-loop
-starts-requires c κs = search needs
-
-add-words : tie.Need-add-words Inv-loop μ-loop
-add-words c = search needs
-
-add-at : tie.Need-add-at Inv-loop μ-loop
-add-at c = search needs
-
-loop-less : tie.Need-loop-less Inv-loop μ-loop
-loop-less c = search needs
+unfolding wordsUpTo
+loop-holds c = (omega arith, omega arith, refl)
 
 loop-again : tie.Need-loop-again Inv-loop μ-loop
-loop-again c = ⊎-elim (λ w. omega arith) (λ w. omega arith) (c .if1 .came)
+loop-again c =
+    let l = c .before .before .before .loop in
+    let s = c .before .starts .ensures in
+    ⊎-elim
+    (λ w. (omega arith, omega arith, w .1 ∙ ap (λ (n : ℕ). n + 1) (l .inv .2) ∙ sym (count-one _ _ (l .at) (sym s ∙ w .0 .taken))))
+    (λ w. (omega arith, omega arith, w .1 ∙ l .inv .2 ∙ sym (count-none _ _ (l .at) (sym s ∙ w .0 .left))))
+    (c .if1 .came)
 
 returns : tie.Need-returns Inv-loop μ-loop
-returns c = search needs
+returns c =
+    let l = c .before .loop in
+    let end : l .at ≡ length (c .before .before .before .args .text .now) = omega arith in
+    l .inv .2 ∙ ap (wordsUpTo _ _) end
 
 pub count-spec : {M : Type 1} → statement M
 count-spec =
@@ -41,9 +42,9 @@ count-spec =
     Inv-loop
     μ-loop
     loop-holds
-    starts-requires
-    add-words
-    add-at
-    loop-less
+    (λ c κs. search needs)
+    (λ c. search needs)
+    (λ c. search needs)
+    (λ c. search needs)
     loop-again
     returns)

@@ -1,36 +1,37 @@
--- The place stays behind the start and within the text.
-use Prim.Native.Nat.{_-_, _≤_}
+-- From the place on, what the definition passes is passed.
+use Prim.Native.Nat.{_+_, _-_, _≤_}
+use mathlib.Core.Path.{_≡_}
+use native.Mathlib.Omega.{arith}
 use borrow.Author.Needs.{needs}
-use lib.ListN.{length}
+use lib.ListN.{length, drop}
+use Rattle.terminal.specs.Words.{until}
+use Rattle.terminal.proofs.Separators.{until-turn, until-stops, until-ends}
 use Rattle.terminal.proofs.words.next_separator.Statement.{statement}
 use Rattle.terminal.proofs.words.next_separator.Tie as tie
 
 abbrev Inv-loop : tie.InvT-loop
-Inv-loop text start separator at₀ at = (start ≤ at) × (at ≤ length text)
+Inv-loop text start separator at₀ at = (start ≤ at) × (at ≤ length text) × (at + until separator (drop at text) ≡ start + until separator (drop start text))
 
 abbrev μ-loop : tie.MeasureT-loop
 μ-loop text start separator at₀ at = length text - at
 
-loop-holds : tie.Need-loop-holds Inv-loop μ-loop
-loop-holds c = search needs
-
-shared-slice-read-if1 : tie.Need-shared-slice-read-if1 Inv-loop μ-loop
-shared-slice-read-if1 c = search needs
-
 returns : tie.Need-returns Inv-loop μ-loop
-returns c = search needs
-
-add-at : tie.Need-add-at Inv-loop μ-loop
-add-at c = search needs
-
-loop-less : tie.Need-loop-less Inv-loop μ-loop
-loop-less c = search needs
+returns c =
+    let l = c .before .before .before .loop in
+    let a = c .before .before .before .before .args in
+    (omega arith, omega arith, omega (arith, until-stops (a .separator) (a .text .now) (l .at) (omega arith) (c .if1 .taken)))
 
 loop-again : tie.Need-loop-again Inv-loop μ-loop
-loop-again c = search needs
+loop-again c =
+    let l = c .before .before .before .loop in
+    let a = c .before .before .before .before .args in
+    (omega arith, omega arith, omega (arith, until-turn (a .separator) (a .text .now) (l .at) (omega arith) (c .if1 .left)))
 
 returns-2 : tie.Need-returns-2 Inv-loop μ-loop
-returns-2 c = search needs
+returns-2 c =
+    let l = c .before .loop in
+    let a = c .before .before .args in
+    (omega arith, omega arith, omega (arith, until-ends (a .separator) (a .text .now) (l .at) (omega arith)))
 
 pub next-separator-spec : {M : Type 1} → statement M
 next-separator-spec =
@@ -38,10 +39,10 @@ next-separator-spec =
     (tie.spec
     Inv-loop
     μ-loop
-    loop-holds
-    shared-slice-read-if1
+    (λ c. search needs)
+    (λ c. search needs)
     returns
-    add-at
-    loop-less
+    (λ c. search needs)
+    (λ c. search needs)
     loop-again
     returns-2)

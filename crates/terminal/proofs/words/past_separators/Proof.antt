@@ -1,36 +1,37 @@
--- The place stays behind the start and within the text.
-use Prim.Native.Nat.{_-_, _≤_}
+-- From the place on, what the definition passes is passed.
+use Prim.Native.Nat.{_+_, _-_, _≤_}
+use mathlib.Core.Path.{_≡_}
+use native.Mathlib.Omega.{arith}
 use borrow.Author.Needs.{needs}
-use lib.ListN.{length}
+use lib.ListN.{length, drop}
+use Rattle.terminal.specs.Words.{over}
+use Rattle.terminal.proofs.Separators.{over-turn, over-stops, over-ends}
 use Rattle.terminal.proofs.words.past_separators.Statement.{statement}
 use Rattle.terminal.proofs.words.past_separators.Tie as tie
 
 abbrev Inv-loop : tie.InvT-loop
-Inv-loop text start separator at₀ at = (start ≤ at) × (at ≤ length text)
+Inv-loop text start separator at₀ at = (start ≤ at) × (at ≤ length text) × (at + over separator (drop at text) ≡ start + over separator (drop start text))
 
 abbrev μ-loop : tie.MeasureT-loop
 μ-loop text start separator at₀ at = length text - at
 
-loop-holds : tie.Need-loop-holds Inv-loop μ-loop
-loop-holds c = search needs
-
-shared-slice-read-if1 : tie.Need-shared-slice-read-if1 Inv-loop μ-loop
-shared-slice-read-if1 c = search needs
-
 returns : tie.Need-returns Inv-loop μ-loop
-returns c = search needs
-
-add-at : tie.Need-add-at Inv-loop μ-loop
-add-at c = search needs
-
-loop-less : tie.Need-loop-less Inv-loop μ-loop
-loop-less c = search needs
+returns c =
+    let l = c .before .before .before .loop in
+    let a = c .before .before .before .before .args in
+    (omega arith, omega arith, omega (arith, over-stops (a .separator) (a .text .now) (l .at) (omega arith) (c .if1 .taken)))
 
 loop-again : tie.Need-loop-again Inv-loop μ-loop
-loop-again c = search needs
+loop-again c =
+    let l = c .before .before .before .loop in
+    let a = c .before .before .before .before .args in
+    (omega arith, omega arith, omega (arith, over-turn (a .separator) (a .text .now) (l .at) (omega arith) (c .if1 .left)))
 
 returns-2 : tie.Need-returns-2 Inv-loop μ-loop
-returns-2 c = search needs
+returns-2 c =
+    let l = c .before .loop in
+    let a = c .before .before .args in
+    (omega arith, omega arith, omega (arith, over-ends (a .separator) (a .text .now) (l .at) (omega arith)))
 
 pub past-separators-spec : {M : Type 1} → statement M
 past-separators-spec =
@@ -38,10 +39,10 @@ past-separators-spec =
     (tie.spec
     Inv-loop
     μ-loop
-    loop-holds
-    shared-slice-read-if1
+    (λ c. search needs)
+    (λ c. search needs)
     returns
-    add-at
-    loop-less
+    (λ c. search needs)
+    (λ c. search needs)
     loop-again
     returns-2)

@@ -1,39 +1,33 @@
--- The place stays within the text.
+-- After i turns the place is where the word of index i starts.
 use Prim.Native.Nat.{_-_, _≤_}
+use mathlib.Core.Path.{_≡_, ap, _∙_}
+use native.Mathlib.Omega.{arith}
 use borrow.Author.Needs.{needs}
 use lib.ListN.{length}
+use Rattle.terminal.specs.Words.{wordAt}
+use Rattle.terminal.proofs.Separators.{word-first, word-next}
 use Rattle.terminal.proofs.words.word_start.Statement.{statement}
 use Rattle.terminal.proofs.words.word_start.Tie as tie
 
 abbrev Inv-loop : tie.InvT-loop
-Inv-loop text index separator at₀ i₀ at i = at ≤ length text
+Inv-loop text index separator at₀ i₀ at i = (at ≤ length text) × (i ≤ index) × (at ≡ wordAt separator text i)
 
 abbrev μ-loop : tie.MeasureT-loop
 μ-loop text index separator at₀ i₀ at i = index - i
 
-past-separators-requires : tie.Need-past-separators-requires Inv-loop μ-loop
-past-separators-requires c κs = search needs
-
 loop-holds : tie.Need-loop-holds Inv-loop μ-loop
-loop-holds c = search needs
-
-next-separator-requires : tie.Need-next-separator-requires Inv-loop μ-loop
-next-separator-requires c κs = search needs
-
-past-separators-requires-2 : tie.Need-past-separators-requires-2 Inv-loop μ-loop
-past-separators-requires-2 c κs = search needs
-
-add-i : tie.Need-add-i Inv-loop μ-loop
-add-i c = search needs
-
-loop-less : tie.Need-loop-less Inv-loop μ-loop
-loop-less c = search needs
+loop-holds c = (omega arith, omega arith, word-first _ _ _ (c .past-separators .ensures .2))
 
 loop-again : tie.Need-loop-again Inv-loop μ-loop
-loop-again c = search needs
+loop-again c =
+    let l = c .before .before .before .loop in
+    (omega arith, omega arith, word-next _ _ (l .i) _ _ _ (l .inv .2) (c .before .next-separator .ensures .2) (c .past-separators2 .ensures .2))
 
 returns : tie.Need-returns Inv-loop μ-loop
-returns c = search needs
+returns c =
+    let l = c .before .loop in
+    let end : l .i ≡ c .before .before .before .before .args .index = omega arith in
+    (omega arith, l .inv .2 ∙ ap (wordAt _ _) end)
 
 pub word-start-spec : {M : Type 1} → statement M
 word-start-spec =
@@ -41,11 +35,11 @@ word-start-spec =
     (tie.spec
     Inv-loop
     μ-loop
-    past-separators-requires
+    (λ c κs. search needs)
     loop-holds
-    next-separator-requires
-    past-separators-requires-2
-    add-i
-    loop-less
+    (λ c κs. search needs)
+    (λ c κs. search needs)
+    (λ c. search needs)
+    (λ c. search needs)
     loop-again
     returns)

@@ -1,0 +1,3 @@
+pub mod Answering
+mod Choices
+pub mod Numbered

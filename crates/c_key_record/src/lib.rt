@@ -1,0 +1,38 @@
+// A key record as C holds it, in 48 bytes: the version in four, then key, iv and hp.
+use packets::Keys;
+ghost use mathlib.Core.Path.{_≡_};
+ghost use Rattle.packets.specs.KeyRecord.{keysOf};
+ghost use Rattle.c_key_record.specs.Layout.{keyBytes, keysIn};
+
+// The bytes of a record.
+pub type KeyRecord = [u8; 48];
+
+// The keys that a record holds.
+pub fn load_keys(bytes: KeyRecord) -> Keys
+    ensures { λ r. ⌜ keysOf r ≡ keysIn bytes ⌝ }
+{
+    let mut key = [0u8; 16];
+    octets::copy(&mut key, 0, &bytes[4..20]);
+    let mut iv = [0u8; 12];
+    octets::copy(&mut iv, 0, &bytes[20..32]);
+    let mut hp = [0u8; 16];
+    octets::copy(&mut hp, 0, &bytes[32..48]);
+    Keys {
+        version: octets::word(&bytes, 0),
+        key,
+        iv,
+        hp,
+    }
+}
+
+// The record of keys.
+pub fn key_bytes(version: u32, key: &[u8; 16], iv: &[u8; 12], hp: &[u8; 16]) -> KeyRecord
+    ensures { λ r. ⌜ r ≡ keyBytes (record { version = version; key = now (key .entry); iv = now (iv .entry); hp = now (hp .entry) }) ⌝ }
+{
+    let mut bytes = [0u8; 48];
+    octets::store(&mut bytes, 0, 4, version as u64);
+    octets::copy(&mut bytes, 4, key);
+    octets::copy(&mut bytes, 20, iv);
+    octets::copy(&mut bytes, 32, hp);
+    bytes
+}

@@ -1,0 +1,11 @@
+-- What C is promised of keys: RFC 9001 section 5.2.
+use Prim.Native.Nat.{ℕ}
+use mathlib.Core.List.{List}
+use Rattle.keys.specs.InitialKeys.{initialKeys}
+use Rattle.c_forms.specs.Promises.{Answers}
+use Rattle.c_key_record.specs.Layout.{keyBytes}
+use Rattle.c_keys.specs.Arguments.{sideBy}
+
+-- the keys are what is reported
+abbrev pub DwInitialKeys : (v : ℕ) (destination : List ℕ) (server : ℕ) (before : List ℕ) (r : ℕ) (keys : List ℕ) → Type 0
+DwInitialKeys v destination server = Answers (initialKeys v destination (sideBy server)) keyBytes

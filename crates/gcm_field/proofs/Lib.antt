@@ -1,0 +1,3 @@
+pub mod Linear
+pub mod Words
+pub mod OneAnswer

@@ -1,0 +1,2 @@
+pub mod InitialHeaders
+pub mod OneAnswer

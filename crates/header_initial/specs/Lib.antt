@@ -1,0 +1,2 @@
+pub mod InitialHeader
+pub mod Answers

@@ -1,0 +1,2 @@
+pub mod LongHeaders
+pub mod OneAnswer

@@ -1,0 +1,2 @@
+pub mod LongHeader
+pub mod Answers

@@ -1,0 +1,94 @@
+// RFC 9000 sections 16 and 17.2: integers and long headers, written at the start of a lent buffer.
+ghost use mathlib.Core.Path.{_≡_};
+ghost use mathlib.Core.List.{_∷_};
+ghost use Prim.Native.Nat.{_+_, _^_, _≤_, _<_};
+ghost use lib.ListN.{length};
+ghost use Rattle.octets.specs.Octets.{laid, Begins};
+ghost use Rattle.header_writing.specs.Written.{smallest, two, withLength, longFields, initialFields, InitialFits};
+
+// How many bytes the smallest form of an integer below 2^30 takes.
+pub fn smallest_form(value: usize) -> usize
+    ensures { λ r. ⌜ r ≡ length (smallest value) ⌝ }
+{
+    if value < 64 {
+        return 1;
+    }
+    if value < 16384 {
+        return 2;
+    }
+    4
+}
+
+// An integer below 2^14 in two bytes.
+fn write_two(buffer: &mut [u8], at: usize, value: usize)
+    requires { ⌜ (value < 2 ^ 14) × (at + 2 ≤ length (now buffer)) ⌝ }
+    ensures { λ _. ⌜ now (buffer .exit) ≡ laid (now (buffer .entry)) at (two value) ⌝ }
+{
+    octets::store(buffer, at, 2, 16384 + value as u64);
+}
+
+// An integer below 2^30 in its smallest form.
+fn write_smallest(buffer: &mut [u8], at: usize, value: usize)
+    requires { ⌜ (value < 2 ^ 30) × (at + length (smallest value) ≤ length (now buffer)) ⌝ }
+    ensures { λ _. ⌜ now (buffer .exit) ≡ laid (now (buffer .entry)) at (smallest value) ⌝ }
+{
+    if value < 64 {
+        octets::store(buffer, at, 1, value as u64);
+        return;
+    }
+    if value < 16384 {
+        write_two(buffer, at, value);
+        return;
+    }
+    octets::store(buffer, at, 4, 2147483648 + value as u64);
+}
+
+// A connection ID behind its length byte.
+fn write_id(buffer: &mut [u8], at: usize, id: &[u8])
+    requires { ⌜ (length (now id) ≤ 255) × (at + 1 + length (now id) ≤ length (now buffer)) ⌝ }
+    ensures { λ _. ⌜ now (buffer .exit) ≡ laid (now (buffer .entry)) at (withLength (now (id .entry))) ⌝ }
+{
+    octets::put(buffer, at, id.len() as u8);
+    octets::copy(buffer, at + 1, id);
+}
+
+// Section 17.2: what every long header begins with; where it ends.
+pub fn write_long(
+    buffer: &mut [u8],
+    first: u8,
+    version: u32,
+    destination: &[u8],
+    source: &[u8],
+) -> usize
+    requires { ⌜ (length (now destination) ≤ 255) × (length (now source) ≤ 255) × (7 + length (now destination) + length (now source) ≤ length (now buffer)) ⌝ }
+    ensures { λ r. ⌜ Begins (first ∷ longFields version (now (destination .entry)) (now (source .entry))) (now (buffer .entry)) (now (buffer .exit)) r ⌝ }
+{
+    octets::put(buffer, 0, first);
+    octets::store(buffer, 1, 4, version as u64);
+    write_id(buffer, 5, destination);
+    let source_at = 6 + destination.len();
+    write_id(buffer, source_at, source);
+    source_at + 1 + source.len()
+}
+
+// Section 17.2.2: an Initial packet's fields before the number; where they end.
+pub fn write_initial(
+    buffer: &mut [u8],
+    first: u8,
+    version: u32,
+    destination: &[u8],
+    source: &[u8],
+    token: &[u8],
+    counted: usize,
+) -> usize
+    requires { ⌜ InitialFits (now destination) (now source) (now token) counted (now buffer) ⌝ }
+    ensures { λ r. ⌜ Begins (first ∷ initialFields version (now (destination .entry)) (now (source .entry)) (now (token .entry)) counted) (now (buffer .entry)) (now (buffer .exit)) r ⌝ }
+{
+    let token_length_at = write_long(buffer, first, version, destination, source);
+    write_smallest(buffer, token_length_at, token.len());
+    let token_at = token_length_at + smallest_form(token.len());
+    octets::copy(buffer, token_at, token);
+    let length_at = token_at + token.len();
+    write_two(buffer, length_at, counted);
+    length_at + 2
+}

@@ -1,0 +1,13 @@
+-- A contract on the keys that a record stands for permits one record only.
+use mathlib.Core.Path.{_≡_, refl}
+use Rattle.octets.proofs.Outcome.{once}
+use Rattle.packets.specs.Protection.{Keys}
+use Rattle.packets.specs.KeyRecord.{keysOf}
+use Rattle.packets.specs.declared.Keys as Code
+
+-- the code's record of keys
+abbrev keysBack : Keys → Code.Keys
+keysBack k = record { version = k .version; key = k .key; iv = k .iv; hp = k .hp }
+
+pub keys-once : {r r′ : Code.Keys} {k : Keys} → keysOf r ≡ k → keysOf r′ ≡ k → r ≡ r′
+keys-once s t = once keysOf keysBack (λ r. refl) s t

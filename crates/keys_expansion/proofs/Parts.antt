@@ -1,0 +1,10 @@
+-- A sender's keys, part by part.
+use Prim.Native.Nat.{ℕ}
+use mathlib.Core.Path.{_≡_}
+use mathlib.Core.List.{List}
+use Rattle.packets.specs.Protection.{Keys}
+
+-- keys are the same where their parts are
+pub keys-same : (v : ℕ) {key key′ iv iv′ hp hp′ : List ℕ} → key ≡ key′ → iv ≡ iv′ → hp ≡ hp′
+    → _≡_ {A = Keys} (record { version = v; key = key; iv = iv; hp = hp }) (record { version = v; key = key′; iv = iv′; hp = hp′ })
+keys-same v p q r = rw (p, q, r)

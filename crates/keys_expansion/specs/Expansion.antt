@@ -1,0 +1,23 @@
+-- RFC 9001 section 5.1: a sender's keys, from its secret.
+use Prim.Native.Nat.{ℕ}
+use mathlib.Core.List.{List}
+use Rattle.hkdf.specs.Hkdf.{expandLabel}
+use Rattle.versions.specs.Versions.{Version, version}
+use Rattle.packets.specs.Protection.{Keys}
+use Rattle.keys_expansion.specs.declared.Part.{Part}
+use Rattle.keys_expansion.specs.declared.Part.the-variants as Part
+
+-- the label of a part of the keys
+abbrev pub labelOf : Part → Version → List ℕ
+labelOf Part.Key v = v .keyLabel
+labelOf Part.Iv v = v .ivLabel
+labelOf Part.Hp v = v .hpLabel
+
+-- key, iv and hp
+unfoldable pub keysFrom : (v : ℕ) (secret : List ℕ) → Keys
+keysFrom v secret = record {
+  version = v;
+  key = expandLabel secret (version v .keyLabel) 16;
+  iv = expandLabel secret (version v .ivLabel) 12;
+  hp = expandLabel secret (version v .hpLabel) 16;
+}

@@ -1,4 +1,0 @@
-pub mod Integers
-pub mod Numbers
-pub mod Recovery
-pub mod OneAnswer

@@ -1,0 +1,2 @@
+pub mod Unmasking
+pub mod Parts

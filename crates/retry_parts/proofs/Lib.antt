@@ -1,0 +1,2 @@
+pub mod WrittenBack
+pub mod OneAnswer

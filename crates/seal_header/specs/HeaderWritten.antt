@@ -1,0 +1,12 @@
+-- What writing the plain header promises.
+use Prim.Native.Nat.{ℕ}
+use mathlib.Core.Path.{_≡_}
+use mathlib.Core.List.{List}
+use lib.ListN.{length}
+use Rattle.octets.specs.Octets.{begun}
+use Rattle.header_writing.specs.Written.{Plain, front, plainHeader}
+
+-- the plain header at a buffer's start, and where its number stands
+pub record HeaderWritten (v : ℕ) (p : Plain) (before after : List ℕ) (place : ℕ) : Type 0 where
+  pub holds : after ≡ begun (plainHeader v p) before
+  pub stands : place ≡ length (front v p)

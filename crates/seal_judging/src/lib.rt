@@ -1,0 +1,109 @@
+// Sealing, as far as nothing is written: what is asked is judged in document 01's order.
+use header_fields::LONGEST_ID;
+use header_fields::TAG_LENGTH;
+use header_long::LIMIT;
+use numbers::FullPn;
+use numbers_shortening::Acknowledged;
+use numbers_shortening::Shortened;
+use numbers_shortening::shorten;
+use octets::refusal;
+use packets::Keys;
+ghost use mathlib.Core.Path.{_≡_};
+ghost use Prim.Native.Nat.{_+_, _≤_};
+ghost use lib.ListN.{length};
+ghost use Rattle.octets.specs.Octets.{lengthGiven};
+ghost use Rattle.numbers_shortening.specs.Answers.{acknowledgedOf};
+ghost use Rattle.header_fields.specs.Fields.{longestId};
+ghost use Rattle.header_long.specs.LongHeader.{limit};
+ghost use Rattle.header_writing.specs.Written.{smallest};
+ghost use Rattle.packets.specs.KeyRecord.{keysOf};
+ghost use Rattle.packets.specs.Packet.{sealed};
+ghost use Rattle.packets.specs.AesGcm.{aesGcm};
+ghost use Rattle.seal_judging.specs.Judging.{sealingAnswer, sized};
+
+// What sealing answers: a refusal's number, or the packet's length.
+pub enum Sealing {
+    Refused(u8),
+    Written(usize),
+}
+
+// How long the packet is, where no part of it is over the limit.
+fn size_of(count: usize, destination: usize, source: usize, token: usize, payload: usize) -> usize
+    requires { ⌜ (count ≤ 4) × (destination ≤ limit) × (source ≤ limit) × (token ≤ limit) × (payload ≤ limit) ⌝ }
+    ensures { λ r. ⌜ r ≡ 9 + destination + source + length (smallest token) + token + (count + payload + 16) ⌝ }
+{
+    9
+        + destination
+        + source
+        + header_writing::smallest_form(token)
+        + token
+        + (count + payload + TAG_LENGTH)
+}
+
+// Whether a packet with parts of these lengths is over the limit, or over the room for it; its length, where it is neither.
+fn judge_size(
+    count: usize,
+    destination: usize,
+    source: usize,
+    token: usize,
+    payload: usize,
+    room: usize,
+) -> Sealing
+    requires { ⌜ (count ≤ 4) × (destination ≤ longestId) × (source ≤ longestId) ⌝ }
+    ensures { λ r. ⌜ sealingAnswer r ≡ sized (9 + destination + source + length (smallest token) + token + (count + payload + 16)) room ⌝ }
+{
+    if LIMIT < token {
+        return Sealing::Refused(refusal::SIZE);
+    }
+    if LIMIT < payload {
+        return Sealing::Refused(refusal::SIZE);
+    }
+    let size = size_of(count, destination, source, token, payload);
+    if LIMIT < size {
+        return Sealing::Refused(refusal::SIZE);
+    }
+    if room < size {
+        return Sealing::Refused(refusal::ROOM);
+    }
+    Sealing::Written(size)
+}
+
+// What sealing into a room of that many bytes answers; no buffer is at hand to be written.
+pub fn judge(
+    keys: Keys,
+    number: FullPn,
+    acknowledged: Acknowledged,
+    count: usize,
+    destination: &[u8],
+    source: &[u8],
+    token: &[u8],
+    payload: &[u8],
+    room: usize,
+) -> Sealing
+    ensures { λ r. ⌜ sealingAnswer r ≡ lengthGiven (sealed aesGcm (keysOf keys) (acknowledgedOf acknowledged) (record { destination = now (destination .entry); source = now (source .entry); token = now (token .entry); payload = now (payload .entry); packetNumber = number .0; numberLength = count }) room) ⌝ }
+{
+    if !versions::is_known(keys.version) {
+        return Sealing::Refused(refusal::VERSION);
+    }
+    match shorten(number, acknowledged, count) {
+        Shortened::Refused(why) => return Sealing::Refused(why),
+        Shortened::Short(_) => {}
+    }
+    if LONGEST_ID < destination.len() {
+        return Sealing::Refused(refusal::LONG_ID);
+    }
+    if LONGEST_ID < source.len() {
+        return Sealing::Refused(refusal::LONG_ID);
+    }
+    if count + payload.len() < 4 {
+        return Sealing::Refused(refusal::SHORT);
+    }
+    judge_size(
+        count,
+        destination.len(),
+        source.len(),
+        token.len(),
+        payload.len(),
+        room,
+    )
+}

@@ -1,4 +1,0 @@
-pub mod Versions
-pub mod Fields
-pub mod Headers
-pub mod OneAnswer
