@@ -153,7 +153,7 @@ pub(crate) fn read_initial(datagram: &[u8], of_keys: Option<u32>) -> Result<Head
     let token_length = fields.integer()?;
     let token = fields.take(token_length)?;
     let length = fields.integer()?;
-    // document 01: Length is judged (7) before its end is looked for (3)
+    // the scope: Length is judged (7) before its end is looked for (3)
     ensure(length >= (SAMPLE_OFFSET + SAMPLE) as u64, Refusal::Length)?;
     let number_at = fields.take(length)?.at;
     Ok(Header {

@@ -121,7 +121,7 @@ mod tests {
         }
     }
 
-    /// Document 003 appendix A.1 and document 01, "On either side of a boundary".
+    /// Document 003 appendix A.1 and docs/SCOPE.md, "Boundaries".
     #[test]
     fn infos() {
         let lines = [

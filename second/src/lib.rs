@@ -2,7 +2,7 @@
 //! draft, from the hash upwards.
 //!
 //! It is written from FIPS 180-4, RFC 2104, RFC 5869, FIPS 197, SP 800-38D, RFC 9000, RFC 9001, the version 2 draft
-//! (document 003) and the scope of work (document 01, which decides), and shares no code and no table with the proved
+//! (document 003) and the scope of work (docs/SCOPE.md, which decides), and shares no code and no table with the proved
 //! crates. It is written to be read and not to be fast. One module holds what one paper says.
 
 pub mod aes;

@@ -10,7 +10,7 @@ fn window(length: usize) -> u64 {
     1 << (8 * length)
 }
 
-/// Document 01, "Numbers short and full": how far a number stands above what was acknowledged. Refused where no length
+/// docs/SCOPE.md, "Packet numbers": how far a number stands above what was acknowledged. Refused where no length
 /// covers it: so many numbers may be in flight that four bytes cannot tell them apart.
 fn gap(number: u64, acknowledged: Option<u64>) -> Result<u64, Refusal> {
     ensure(number < NUMBER_LIMIT, Refusal::NumberRange)?;
@@ -70,7 +70,7 @@ mod tests {
     use super::*;
     use Refusal::{Acknowledged, NumberLength, NumberRange};
 
-    /// RFC 9000 appendix A.2, and document 01, "On either side of a boundary".
+    /// RFC 9000 appendix A.2, and docs/SCOPE.md, "Boundaries".
     #[test]
     fn lengths() {
         assert_eq!(smallest_length(0xac5c02, Some(0xabe8b3)), Ok(2));
@@ -107,7 +107,7 @@ mod tests {
         assert_eq!(shorten((1 << 62) - 1, Some((1 << 62) - 2), 1), Ok(255));
     }
 
-    /// RFC 9000 appendix A.3, and document 01, "On either side of a boundary".
+    /// RFC 9000 appendix A.3, and docs/SCOPE.md, "Boundaries".
     #[test]
     fn recovering() {
         let top = 1 << 62;

@@ -1,4 +1,4 @@
-//! Document 01, "What comes back": each refusal, and calls with several faults at once, which show the order.
+//! docs/SCOPE.md, "Refusals": each refusal, and calls with several faults at once, which show the order.
 
 use crate::header::{read_header, Header, TAG};
 use crate::integer;

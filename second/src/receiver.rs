@@ -18,7 +18,7 @@ impl Receiver {
         Receiver { keys, start, opened: Vec::new() }
     }
 
-    /// Document 01: one above the greatest number opened, and never below where it started.
+    /// The scope: one above the greatest number opened, and never below where it started.
     pub fn expected(&self) -> u64 {
         self.opened.iter().map(|number| number + 1).fold(self.start, u64::max)
     }

@@ -1,4 +1,4 @@
-//! The refusals of document 01, "What comes back", with their numbers.
+//! The refusals of docs/SCOPE.md, "Refusals", with their numbers.
 
 /// Why an operation refused.
 #[derive(Clone, Copy, Debug, PartialEq, Eq)]
@@ -35,7 +35,7 @@ pub enum Refusal {
 }
 
 impl Refusal {
-    /// The number in document 01's table.
+    /// The number in the scope's table.
     pub fn number(self) -> u32 {
         self as u32
     }

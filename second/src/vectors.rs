@@ -1,4 +1,4 @@
-//! The public packets: RFC 9001 appendix A, document 003 appendix A, and document 01's lines on sealing.
+//! The public packets: RFC 9001 appendix A, document 003 appendix A, and the scope's lines on sealing.
 
 use crate::header::{read_header, Place};
 use crate::hex;
@@ -127,7 +127,7 @@ fn server_initials() {
     }
 }
 
-/// Document 003 A.3 and document 01's boundary line: the server's header under its mask.
+/// Document 003 A.3 and the scope's boundary line: the server's header under its mask.
 #[test]
 fn server_header_mask() {
     let packet = hex::bytes(SERVER_PACKETS[1]);
@@ -166,7 +166,7 @@ fn retries() {
     }
 }
 
-/// Document 01: number length 1 and payload 2 is 7, payload 3 is sealed; 1,500 bytes are sealed, 1,501 are 1.
+/// The scope: number length 1 and payload 2 is 7, payload 3 is sealed; 1,500 bytes are sealed, 1,501 are 1.
 #[test]
 fn sealing_boundaries() {
     for version in VERSIONS {

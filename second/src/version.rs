@@ -3,7 +3,7 @@
 use crate::hex::array;
 use crate::refusal::Refusal;
 
-/// What differs between versions (document 01, "Constants").
+/// What differs between versions (docs/SCOPE.md, "Constants").
 pub struct Version {
     pub number: u32,
     pub salt: [u8; 20],

@@ -1,4 +1,4 @@
-// Sealing: RFC 9001 section 5, as document 01 has it written.
+// Sealing: RFC 9001 section 5, as the scope has it written.
 use numbers::FullPn;
 use numbers_shortening::Acknowledged;
 use packets::Keys;

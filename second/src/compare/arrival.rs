@@ -1,5 +1,5 @@
 //! An Initial on its way to `dw_open` or `dw_read_header`, and every fault that it can have, in the order in which
-//! document 01 judges them.
+//! the scope judges them.
 
 use super::draft::{expected_for, Draft, Fields, Id};
 use super::faults::Fault;

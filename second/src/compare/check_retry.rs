@@ -180,7 +180,7 @@ impl Arrival {
     }
 }
 
-/// In document 01's order: 5 (original), 1, 2, the fields, 3, 13, 11. Each changes bytes or cuts, and none moves a field.
+/// In the scope's order: 5 (original), 1, 2, the fields, 3, 13, 11. Each changes bytes or cuts, and none moves a field.
 const FAULTS: [Fault<Arrival>; 18] = [
     (5, |arrival, random| arrival.original = sample::long_id(random).to_vec()),
     (1, |arrival, _| arrival.datagram.clear()),

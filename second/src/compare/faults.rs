@@ -1,4 +1,4 @@
-//! Calls with several faults at once. Their answer is known: it is the refusal that document 01's order judges first.
+//! Calls with several faults at once. Their answer is known: it is the refusal that the scope's order judges first.
 
 use crate::random::Random;
 

@@ -95,7 +95,7 @@ fn any(tally: &mut Tally, random: &mut Random) {
     }
 }
 
-/// In document 01's order: 10 for what is expected, 12, and 10 for what is recovered.
+/// In the scope's order: 10 for what is expected, 12, and 10 for what is recovered.
 const FAULTS: [Fault<Recover>; 4] = [
     (10, |call, random| call.expected = NUMBER_LIMIT + 1 + (random.word() >> 2 >> random.below(62))),
     (12, |call, random| call.length = random.pick(&WRONG_LENGTHS)),

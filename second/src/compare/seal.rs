@@ -214,7 +214,7 @@ fn gaps(tally: &mut Tally, random: &mut Random) {
     }
 }
 
-/// In document 01's order: 4, 10, 14, 12, 5, 7, 1, 8.
+/// In the scope's order: 4, 10, 14, 12, 5, 7, 1, 8.
 const FAULTS: [Fault<Seal>; 9] = [
     (4, |call, random| {
         let version = sample::unknown_version(random);

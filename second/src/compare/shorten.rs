@@ -193,7 +193,7 @@ fn shorten_any(tally: &mut Tally, random: &mut Random) {
     }
 }
 
-/// In document 01's order: 10, 14.
+/// In the scope's order: 10, 14.
 const SMALLEST_LENGTH_FAULTS: [Fault<SmallestLength>; 2] =
     [(10, |call, random| call.0.put_beyond(random)), (14, |call, random| call.0.put_uncovered(random))];
 
@@ -205,7 +205,7 @@ fn smallest_length_faults(tally: &mut Tally, random: &mut Random) {
     });
 }
 
-/// In document 01's order: 10, 14, 12.
+/// In the scope's order: 10, 14, 12.
 const SHORTEN_FAULTS: [Fault<Shorten>; 4] = [
     (10, |call, random| call.gap.put_beyond(random)),
     (14, |call, random| call.gap.put_uncovered(random)),

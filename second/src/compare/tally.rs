@@ -40,7 +40,7 @@ impl Tally {
         self.compare_if(call, |_| true, "anything")
     }
 
-    /// Compares a call whose answer is known from how it was made: 0, or the first of its faults in document 01's order.
+    /// Compares a call whose answer is known from how it was made: 0, or the first of its faults in the scope's order.
     pub fn compare_knowing<const WORDS: usize>(&mut self, call: &impl Call<WORDS>, known: u32) -> Effect<WORDS> {
         self.compare_if(call, |ours| ours.number() == known, format_args!("the answer {known}"))
     }

@@ -129,7 +129,7 @@ fn rooms(tally: &mut Tally, random: &mut Random) {
     }
 }
 
-/// In document 01's order: 4, 5 (original, destination, source), 13, 1, 8.
+/// In the scope's order: 4, 5 (original, destination, source), 13, 1, 8.
 const FAULTS: [Fault<WriteRetry>; 7] = [
     (4, |call, random| call.version = sample::unknown_version(random)),
     (5, |call, random| call.original = sample::long_id(random)),
