@@ -34,17 +34,7 @@ fn the_header_has_the_same_numbers_and_words() {
 
 #[test]
 fn the_terminal_has_the_same_words() {
-<<<<<<< Updated upstream
     let table = TERMINAL.lines().skip_while(|line| !line.starts_with("const WORDS")).skip(1);
     let words: Vec<_> = table.take(Refusal::ALL.len()).map(|line| line.split("\\n").next()).collect();
     assert_eq!(words, Refusal::ALL.map(|refusal| Some(refusal.words())));
-=======
-    // a line for each number, and one before them for none
-    let table = quoted(TERMINAL, "const WORDS");
-    let lines: Vec<&str> = table.split("\\n").map(|line| line.trim_start_matches(&['\\', '\n'][..])).collect();
-    for (refusal, line) in Refusal::ALL.into_iter().zip(&lines[1..]) {
-        assert_eq!(*line, refusal.words());
-    }
-    assert_eq!(lines.len(), 1 + Refusal::ALL.len() + 1);
->>>>>>> Stashed changes
 }
