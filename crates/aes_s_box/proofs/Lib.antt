@@ -1,2 +1,3 @@
 pub mod SBox
 pub mod Bytes
+pub mod OneAnswer
