@@ -1,7 +1,6 @@
 // The inner parts of the library as C functions, so that `make bench` can time each alone. No part of the product.
 pub mod by_bits;
 
-use gcm_field::Block;
 ghost use mathlib.Core.Path.{_≡_};
 ghost use Prim.Native.Nat.{_/_};
 ghost use lib.ListN.{length};

@@ -1,8 +1,8 @@
 -- The steps one after the other; the test says which of the two rounds it is.
 use mathlib.Core.Path.{_≡_, sym, ap, _∙_}
-use mathlib.Core.Bool.{Bool, true, false}
+use mathlib.Core.Bool.{true, false}
 use borrow.Author.Needs.{needs}
-use Rattle.aes_state.specs.State.{State, subBytes, addRoundKey}
+use Rattle.aes_state.specs.State.{State, addRoundKey}
 use Rattle.aes_shifting.specs.Shifting.{shiftRows}
 use Rattle.aes_mixing.specs.Mixing.{mixColumns}
 use Rattle.aes128.proofs.one_round.Statement.{statement}

@@ -1,6 +1,5 @@
 -- The tests on the way say what is missing.
 use mathlib.Core.Path.{sym}
-use native.Mathlib.Omega.{arith}
 use borrow.Author.Needs.{needs}
 use Rattle.digits_numbers.proofs.Reading.{too-short, no-zero, by-letter}
 use Rattle.digits_numbers.proofs.is_marked.Statement.{statement}

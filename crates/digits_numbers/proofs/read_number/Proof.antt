@@ -1,9 +1,7 @@
 -- A mark says the base, and that something stands behind it.
-use Prim.Native.Nat.{_<_}
 use mathlib.Core.Path.{sym, _∙_}
 use native.Mathlib.Omega.{arith}
 use borrow.Author.Needs.{needs}
-use lib.ListN.{length}
 use Rattle.digits_numbers.proofs.Reading.{marked-long, in-hex, in-decimal}
 use Rattle.digits_numbers.proofs.read_number.Statement.{statement}
 use Rattle.digits_numbers.proofs.read_number.Tie as tie

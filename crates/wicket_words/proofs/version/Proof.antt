@@ -1,5 +1,4 @@
 -- The number fits 32 bits, or not.
-use Prim.Native.Nat.{_^_, _<_, _≤_}
 use mathlib.Core.Path.{sym, _∙_}
 use native.Mathlib.Omega.{arith}
 use borrow.Author.Needs.{needs}

@@ -1,7 +1,6 @@
 -- Both counts are compared.
 use Prim.Native.Nat.{ℕ, _-_}
 use mathlib.Core.Path.{sym, ap, _∙_}
-use native.Mathlib.Omega.{arith}
 use borrow.Author.Needs.{needs}
 use Rattle.console.proofs.Judging.{enough-when, enough-not}
 use Rattle.console.proofs.calls.are_enough.Statement.{statement}

@@ -1,6 +1,5 @@
 -- Each way the number was read.
 use mathlib.Core.Path.{sym, ap, _∙_}
-use native.Mathlib.Omega.{arith}
 use borrow.Author.Needs.{needs}
 use Rattle.console.specs.Fields.{valueOr0}
 use Rattle.console.proofs.fields.value.Statement.{statement}

@@ -1,6 +1,5 @@
 -- The tests on the way say what the line is.
 use mathlib.Core.Path.{sym, _∙_}
-use native.Mathlib.Omega.{arith}
 use borrow.Author.Needs.{needs}
 use Rattle.console.proofs.Judging.{comment-blank, comment-empty, comment-by}
 use Rattle.console.proofs.files.is_comment.Statement.{statement}

@@ -1,6 +1,5 @@
 -- The tests on the way say what stands at the place and before it.
 use mathlib.Core.Path.{sym}
-use native.Mathlib.Omega.{arith}
 use borrow.Author.Needs.{needs}
 use Rattle.terminal.proofs.Separators.{starts-ends, starts-not, starts-first, starts-behind}
 use Rattle.terminal.proofs.words.starts.Statement.{statement}

@@ -1,7 +1,5 @@
 -- The part from the word's start to the next separator.
-use Prim.Native.Nat.{ℕ, _-_}
-use mathlib.Core.Path.{_≡_, ap, _∙_}
-use native.Mathlib.Omega.{arith}
+use Prim.Native.Nat.{_-_}
 use borrow.Author.Needs.{needs}
 use Rattle.terminal.proofs.Separators.{word-part}
 use Rattle.terminal.proofs.words.word.Statement.{statement}
