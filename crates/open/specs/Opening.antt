@@ -13,7 +13,7 @@ use Rattle.open_writing.specs.declared.Opened as Code
 use Rattle.open.specs.declared.Opening.{Opening}
 use Rattle.open.specs.declared.Opening.the-variants as Opening
 
--- document 01, "What comes back": the full number and its length, the header's length with the number in it, the payload's, and the bytes used
+-- docs/SCOPE.md, "Answers": the full number and its length, the header's length with the number in it, the payload's, and the bytes used
 pub record Report : Type 0 where
   pub fullNumber : ℕ
   pub numberLength : ℕ

@@ -1,4 +1,4 @@
--- Document 01, "On either side of a boundary": the lines marked (P), as one table under one statement.
+-- docs/SCOPE.md, "Boundaries": the lines of its first table, under one statement.
 use Prim.Native.Nat.{_-_, _^_}
 use mathlib.Core.Path.{_≡_}
 use mathlib.Core.List.{[], _∷_}
