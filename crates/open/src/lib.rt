@@ -1,4 +1,4 @@
-// Opening: RFC 9001 section 5, as the scope has it read.
+// Opening: RFC 9001 section 5, as docs/SCOPE.md, "Protection", has it.
 use numbers::FullPn;
 use octets::refusal;
 use open_judging::Finding;

@@ -1,4 +1,4 @@
-// Opening, as far as the tag: the header is read and the mask taken off, and each is judged in the scope's order.
+// Opening, as far as the tag: the header is read and the mask taken off, and each is judged in the order of docs/SCOPE.md, "Order of refusals".
 use header_fields::TAG_LENGTH;
 use header_initial::Reading;
 use header_initial::read_initial;
@@ -19,7 +19,7 @@ pub enum Finding {
     Found(Packet),
 }
 
-// All that opening judges before the tag, in the scope's order; no buffer is at hand to be written.
+// All that opening judges before the tag; no buffer is at hand to be written.
 pub fn find(keys: Keys, expected: u64, datagram: &[u8], room: usize) -> Finding
     ensures { λ r. ⌜ Finds (keysOf keys) expected (now (datagram .entry)) room r ⌝ }
 {

@@ -1,4 +1,4 @@
--- Opening: what it comes to by what the tests show, in the scope's order, over what is computed from the datagram alone.
+-- Opening: what it comes to by what the tests show, in their order, over what is computed from the datagram alone.
 use Prim.Native.Nat.{ℕ, _+_, _-_, _/_, _%_, _≤_, _<_}
 use mathlib.Core.Path.{_≡_, refl, sym, ap, _∙_}
 use mathlib.Core.List.{List}

@@ -1,4 +1,4 @@
--- Sealing: what it comes to by what the tests show, in the scope's order; how long a packet is; and what is known of one because the rules sealed it.
+-- Sealing: what it comes to by what the tests show, in their order; how long a packet is; and what is known of one because the rules sealed it.
 use Prim.Native.Nat.{ℕ, _+_, _≤_, _<_}
 use mathlib.Core.Path.{_≡_, sym, _∙_}
 use mathlib.Core.List.{List, _∷_, _++_}

@@ -1,4 +1,4 @@
--- Sealing and opening: RFC 9001 section 5, over any suite, with the scope's order of refusals.
+-- Sealing and opening: RFC 9001 section 5, over any suite, in the order of docs/SCOPE.md, "Order of refusals".
 use Prim.Native.Nat.{ℕ, _+_, _-_, _/_, _%_}
 use mathlib.Core.List.{List, _∷_, _++_}
 use mathlib.Core.Bool.{_&&_}

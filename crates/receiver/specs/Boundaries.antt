@@ -1,4 +1,4 @@
--- docs/SCOPE.md, "Boundaries": the lines that are proved, as one table under one statement.
+-- docs/SCOPE.md, "Boundaries": the lines of its first table, under one statement.
 use Prim.Native.Nat.{_-_, _^_}
 use mathlib.Core.Path.{_≡_}
 use mathlib.Core.List.{[], _∷_}

@@ -30,8 +30,8 @@ is-given (given s) h = (s, refl)
 
 module _ (k : Keys) (a : Acknowledged) (p : Plain) (out : List ℕ) {r : Sealing} (judged : sealingAnswer r ≡ lengthGiven (sealed aesGcm k a p (length out))) where
   -- refused, and the buffer as it was
-  pub refuses : {n : ℕ} → r ≡ Sealing.Refused n → Seal k a p out r out
-  refuses is =
+  pub refuse : {n : ℕ} → r ≡ Sealing.Refused n → Seal k a p out r out
+  refuse is =
       record { answer = judged; output = stays (sealed aesGcm k a p (length out)) out (ap sealingAnswer (sym is) ∙ judged) }
 
   module _ {n : ℕ} (is : r ≡ Sealing.Written n) where
@@ -53,5 +53,5 @@ module _ (k : Keys) (a : Acknowledged) (p : Plain) (out : List ℕ) {r : Sealing
     }
 
     -- and so it stands at the buffer's start
-    pub writes : {after : List ℕ} → after ≡ begun (packetOf aesGcm k p) out → Seal k a p out r after
-    writes holds = record { answer = judged; output = holds ∙ rw (whole .1, made .is) }
+    pub written : {after : List ℕ} → after ≡ begun (packetOf aesGcm k p) out → Seal k a p out r after
+    written holds = record { answer = judged; output = holds ∙ rw (whole .1, made .is) }

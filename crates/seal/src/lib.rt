@@ -1,4 +1,4 @@
-// Sealing: RFC 9001 section 5, as the scope has it written.
+// Sealing: RFC 9001 section 5, as docs/SCOPE.md, "Protection", has it.
 use numbers::FullPn;
 use numbers_shortening::Acknowledged;
 use packets::Keys;

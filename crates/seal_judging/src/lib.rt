@@ -1,4 +1,4 @@
-// Sealing, as far as nothing is written: what is asked is judged in the scope's order.
+// Sealing, as far as nothing is written: what is asked is judged in the order of docs/SCOPE.md, "Order of refusals".
 use header_fields::LONGEST_ID;
 use header_fields::TAG_LENGTH;
 use header_long::LIMIT;

@@ -1,11 +1,11 @@
 -- What is judged is refused, or can be written and is.
 use borrow.Author.Needs.{needs}
-use Rattle.seal.proofs.Answers.{refuses, writable, writes}
+use Rattle.seal.proofs.Answers.{refuse, writable, written}
 use Rattle.seal.proofs.seal.Statement.{statement}
 use Rattle.seal.proofs.seal.Tie as tie
 
 returns : tie.Need-returns
-returns c = refuses _ _ _ _ (c .before .before .judge .ensures) (c .enum-told .given .1)
+returns c = refuse _ _ _ _ (c .before .before .judge .ensures) (c .enum-told .given .1)
 
 write-packet-requires : tie.Need-write-packet-requires
 write-packet-requires c κs =
@@ -14,7 +14,7 @@ write-packet-requires c κs =
 
 returns-2 : tie.Need-returns-2
 returns-2 c =
-    writes _ _ _ _ (c .before .before .before .before .before .before .judge .ensures) (c .before .before .before .before .enum-told2 .given .1)
+    written _ _ _ _ (c .before .before .before .before .before .before .judge .ensures) (c .before .before .before .before .enum-told2 .given .1)
     (c .before .before .write-packet .ensures)
 
 pub seal-spec : {M : Type 1} → statement M
