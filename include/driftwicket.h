@@ -7,7 +7,7 @@
  * datagram has 1,200 bytes or more. It does not hide its timing.
  *
  * Each function is proved: for all input its answer, its report and every byte that it was lent are what its contract
- * says (crates/driftwicket_c/specs/Promises.antt), it ends, and it touches nothing else.
+ * says (specs/Promises.antt in the crates whose names begin with c_), it ends, and it touches nothing else.
  *
  * THE ANSWER of every function is DW_OK (0), or the number of a refusal (enum dw_refusal; dw_refusal_words tells it).
  *
