@@ -1,6 +1,6 @@
-// SHA-256, by FIPS 180-4: the hash of a message, at once or on from a hash value after whole blocks.
+// SHA-256, by FIPS 180-4: the hash of a message, at once or on from a hash value after whole blocks. The round constants are lent,
+// for a constant table is copied wherever it is used: a caller makes them once for all that it hashes.
 use sha256_constants::initial;
-use sha256_constants::round_constants;
 use sha256_padding::pad;
 use sha256_rounds::add_words;
 use sha256_rounds::all_rounds;
@@ -14,22 +14,13 @@ ghost use Rattle.sha256_constants.specs.Constants.{K};
 ghost use Rattle.sha256_padding.specs.Padding.{padding};
 ghost use Rattle.sha256.specs.Sha256.{compressed, absorbed, digest, finished, hash};
 
-// Section 6.2.2: the hash value after one block more, with the round constants lent: a block does not copy them.
-fn compress_with(k: &[u32; 64], h: [u32; 8], block: &[u8]) -> [u32; 8]
+// Section 6.2.2: the hash value after one block more.
+pub fn compress(k: &[u32; 64], h: [u32; 8], block: &[u8]) -> [u32; 8]
     requires { ⌜ (now k ≡ K) × (length (now block) ≡ 64) ⌝ }
     ensures { λ r. ⌜ r ≡ compressed h (now (block .entry)) ⌝ }
 {
     let w = schedule(parse(block));
     add_words(all_rounds(k, h, &w), h)
-}
-
-// Section 6.2.2: the hash value after one block more.
-pub fn compress(h: [u32; 8], block: &[u8]) -> [u32; 8]
-    requires { ⌜ length (now block) ≡ 64 ⌝ }
-    ensures { λ r. ⌜ r ≡ compressed h (now (block .entry)) ⌝ }
-{
-    let k = round_constants();
-    compress_with(&k, h, block)
 }
 
 // The hash value after the whole blocks of a message.
@@ -41,7 +32,7 @@ fn absorb(k: &[u32; 64], h: [u32; 8], message: &[u8]) -> [u32; 8]
     let mut at: usize = 0;
     while 64 <= message.len() - at {
         let end = at + 64;
-        let next = compress_with(k, value, &message[at..end]);
+        let next = compress(k, value, &message[at..end]);
         value = next;
         at = end;
     }
@@ -72,21 +63,20 @@ fn close(k: &[u32; 64], h: [u32; 8], tail: &[u8], total: u64) -> [u32; 8]
 }
 
 // The hash, on from a hash value after so many bytes in whole blocks, where the rest is left.
-pub fn finish(h: [u32; 8], earlier: u64, rest: &[u8]) -> [u8; 32]
-    requires { ⌜ (earlier % 64 ≡ 0) × (8 * (earlier + length (now rest)) < 2 ^ 64) ⌝ }
+pub fn finish(k: &[u32; 64], h: [u32; 8], earlier: u64, rest: &[u8]) -> [u8; 32]
+    requires { ⌜ (earlier % 64 ≡ 0) × (8 * (earlier + length (now rest)) < 2 ^ 64) × (now k ≡ K) ⌝ }
     ensures { λ r. ⌜ r ≡ finished h earlier (now (rest .entry)) ⌝ }
 {
-    let k = round_constants();
     let whole = rest.len() / 64 * 64;
     let total = earlier + rest.len() as u64;
-    let value = close(&k, absorb(&k, h, rest), &rest[whole..], total);
+    let value = close(k, absorb(k, h, rest), &rest[whole..], total);
     digest_bytes(value)
 }
 
 // Section 6.2: SHA-256 of a message.
-pub fn hash(message: &[u8]) -> [u8; 32]
-    requires { ⌜ 8 * length (now message) < 2 ^ 64 ⌝ }
+pub fn hash(k: &[u32; 64], message: &[u8]) -> [u8; 32]
+    requires { ⌜ (8 * length (now message) < 2 ^ 64) × (now k ≡ K) ⌝ }
     ensures { λ r. ⌜ r ≡ hash (now (message .entry)) ⌝ }
 {
-    finish(initial(), 0, message)
+    finish(k, initial(), 0, message)
 }

@@ -8,19 +8,21 @@ ghost use lib.ListN.{length};
 pub fn sha256(line: &[u8]) {
     let mut message = io::buffer();
     let length = fields::bytes(line, 1, &mut message);
-    print::bytes(&sha256::hash(&message[..length]));
+    let k = sha256_constants::round_constants();
+    print::bytes(&sha256::hash(&k, &message[..length]));
 }
 
 // The hash of a block so many times.
 fn repeated(block: &[u8; 64], count: u32) -> [u8; 32] {
+    let k = sha256_constants::round_constants();
     let mut value = sha256_constants::initial();
     let mut i: u32 = 0;
     while i < count {
-        let next = sha256::compress(value, block);
+        let next = sha256::compress(&k, value, block);
         value = next;
         i += 1;
     }
-    sha256::finish(value, count as u64 * 64, b"")
+    sha256::finish(&k, value, count as u64 * 64, b"")
 }
 
 // sha256-blocks BLOCK COUNT

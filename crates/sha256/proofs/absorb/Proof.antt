@@ -18,14 +18,14 @@ abbrev μ-loop : tie.MeasureT-loop
 loop-holds : tie.Need-loop-holds Inv-loop μ-loop
 loop-holds c = (omega arith, refl)
 
-compress-with-requires : tie.Need-compress-with-requires Inv-loop μ-loop
-compress-with-requires c κs = (search needs, simp (length-take, length-drop) (omega arith))
+compress-requires : tie.Need-compress-requires Inv-loop μ-loop
+compress-requires c κs = (search needs, simp (length-take, length-drop) (omega arith))
 
 loop-again : tie.Need-loop-again Inv-loop μ-loop
 loop-again c =
     let l = c .before .before .before .loop in
     let m = c .before .before .before .before .before .args .message .now in
-    (omega arith, absorbed-turn (l .value) m _ (l .at) (l .at + 64 - l .at) (omega arith) (omega arith) (c .compress-with .ensures) ∙ l .inv .1)
+    (omega arith, absorbed-turn (l .value) m _ (l .at) (l .at + 64 - l .at) (omega arith) (omega arith) (c .compress .ensures) ∙ l .inv .1)
 
 returns : tie.Need-returns Inv-loop μ-loop
 returns c =
@@ -45,7 +45,7 @@ absorb-spec =
     (λ c. search needs)
     (λ c. search needs)
     (λ c. search needs)
-    compress-with-requires
+    compress-requires
     (λ c. search needs)
     loop-again
     returns)

@@ -8,7 +8,7 @@ use Rattle.sha256.proofs.finish.Tie as tie
 
 returns : tie.Need-returns
 returns c =
-    let a = c .before .before .before .before .before .before .before .before .args in
+    let a = c .before .before .before .before .before .args in
     let absorbs = c .before .before .before .absorb .ensures in
     c .digest-bytes .ensures ∙ finished-is (a .h) _ _ (a .rest .now) (a .earlier) _ _ absorbs (c .before .close .ensures) refl (omega arith)
 
@@ -16,7 +16,6 @@ pub finish-spec : {M : Type 1} → statement M
 finish-spec =
     tie.close
     (tie.spec
-    (λ c κs. search needs)
     (λ c. search needs)
     (λ c. search needs)
     (λ c κs. search needs)

@@ -2,8 +2,8 @@
 use mathlib.Core.Path.{_∙_}
 use borrow.Author.Needs.{needs}
 use Rattle.sha256.proofs.Compression.{compressed-is}
-use Rattle.sha256.proofs.compress_with.Statement.{statement}
-use Rattle.sha256.proofs.compress_with.Tie as tie
+use Rattle.sha256.proofs.compress.Statement.{statement}
+use Rattle.sha256.proofs.compress.Tie as tie
 
 returns : tie.Need-returns
 returns c =
@@ -11,7 +11,7 @@ returns c =
     let w = c .before .before .before .schedule in
     c .add-words .ensures ∙ compressed-is (a .h) (a .block .now) _ (w .result) _ (c .before .before .before .before .parse .ensures) (w .ensures) (c .before .all-rounds .ensures)
 
-pub compress-with-spec : {M : Type 1} → statement M
-compress-with-spec =
+pub compress-spec : {M : Type 1} → statement M
+compress-spec =
     tie.close
     (tie.spec (λ c κs. search needs) (λ c κs. search needs) (λ c κs. search needs) (λ c κs. search needs) returns)
