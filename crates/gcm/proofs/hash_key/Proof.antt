@@ -4,18 +4,9 @@ use Rattle.gcm.proofs.Tagging.{key-is}
 use Rattle.gcm.proofs.hash_key.Statement.{statement}
 use Rattle.gcm.proofs.hash_key.Tie as tie
 
-encrypt-requires : tie.Need-encrypt-requires
-encrypt-requires c κs = search needs
-
-slice-aggregate-load-block : tie.Need-slice-aggregate-load-block
-slice-aggregate-load-block c = search needs
-
-load-block-requires : tie.Need-load-block-requires
-load-block-requires c κs = search needs
-
 returns : tie.Need-returns
 returns c = key-is (c .before .before .before .before .args .schedule .now) (c .before .before .encrypt .result) _ (c .before .before .encrypt .ensures) (c .load-block .ensures)
 
 pub hash-key-spec : {M : Type 1} → statement M
 hash-key-spec =
-    tie.close (tie.spec encrypt-requires slice-aggregate-load-block load-block-requires returns)
+    tie.close (tie.spec (λ c κs. search needs) (λ c. search needs) (λ c κs. search needs) returns)

@@ -8,12 +8,6 @@ use Rattle.gcm.specs.Gcm.{tagBy}
 use Rattle.gcm.proofs.make_tag.Statement.{statement}
 use Rattle.gcm.proofs.make_tag.Tie as tie
 
-hash-requires : tie.Need-hash-requires
-hash-requires c κs = search needs
-
-masked-requires : tie.Need-masked-requires
-masked-requires c κs = search needs
-
 returns : tie.Need-returns
 unfolding tagBy
 returns c =
@@ -21,4 +15,4 @@ returns c =
     c .masked .ensures ∙ ap (λ (s : ℕ). gctr (a .schedule .now) (j0 (a .nonce .now)) (bytes 16 s)) (c .before .hash .ensures)
 
 pub make-tag-spec : {M : Type 1} → statement M
-make-tag-spec = tie.close (tie.spec hash-requires masked-requires returns)
+make-tag-spec = tie.close (tie.spec (λ c κs. search needs) (λ c κs. search needs) returns)

@@ -22,42 +22,12 @@ Inv-loop schedule nonce source buffer₀ at table block₀ i₀ buffer block i =
 abbrev μ-loop : tie.MeasureT-loop
 μ-loop schedule nonce source buffer₀ at table block₀ i₀ buffer block i = length source - i
 
-table-requires : tie.Need-table-requires Inv-loop μ-loop
-table-requires c κs = search needs
-
-j0-requires : tie.Need-j0-requires Inv-loop μ-loop
-j0-requires c κs = search needs
-
-inc32-requires : tie.Need-inc32-requires Inv-loop μ-loop
-inc32-requires c κs = search needs
-
 loop-holds : tie.Need-loop-holds Inv-loop μ-loop
 unfolding streamBy
 loop-holds c =
     let a = c .before .before .before .before .before .args in
     let none : a .at + 0 ≡ a .at = omega arith in
     (search needs, refl, ap₂ (λ (n : ℕ) (b : List ℕ). laid (a .buffer .now) n (gctr (a .schedule .now) b (a .source .now))) none (c .inc32 .ensures ∙ ap inc32 (c .before .j0 .ensures)))
-
-block-end-requires : tie.Need-block-end-requires Inv-loop μ-loop
-block-end-requires c κs = search needs
-
-encrypt-with-requires : tie.Need-encrypt-with-requires Inv-loop μ-loop
-encrypt-with-requires c κs = search needs
-
-add-copy-masked : tie.Need-add-copy-masked Inv-loop μ-loop
-add-copy-masked c = search needs
-
-sub-copy-masked : tie.Need-sub-copy-masked Inv-loop μ-loop
-sub-copy-masked c = search needs
-
-part-copy-masked-start : tie.Need-part-copy-masked-start Inv-loop μ-loop
-part-copy-masked-start c = search needs
-
-part-copy-masked-end : tie.Need-part-copy-masked-end Inv-loop μ-loop
-part-copy-masked-end c = search needs
-
-slice-aggregate-copy-masked : tie.Need-slice-aggregate-copy-masked Inv-loop μ-loop
-slice-aggregate-copy-masked c = search needs
 
 copy-masked-requires : tie.Need-copy-masked-requires Inv-loop μ-loop
 copy-masked-requires c κs =
@@ -67,12 +37,6 @@ copy-masked-requires c κs =
     let size = part-length (a .source .now) (l .i) (end .result - l .i) (omega (arith, end .ensures .1)) in
     let mask = ap length (c .before .before .before .encrypt-with .ensures) ∙ encrypted-length (a .schedule .now) (l .block) in
     (omega (arith, l .inv .1), omega arith)
-
-inc32-requires-2 : tie.Need-inc32-requires-2 Inv-loop μ-loop
-inc32-requires-2 c κs = search needs
-
-loop-less : tie.Need-loop-less Inv-loop μ-loop
-loop-less c = search needs
 
 loop-again : tie.Need-loop-again Inv-loop μ-loop
 loop-again c =
@@ -105,20 +69,20 @@ crypt-spec =
     (tie.spec
     Inv-loop
     μ-loop
-    table-requires
-    j0-requires
-    inc32-requires
+    (λ c κs. search needs)
+    (λ c κs. search needs)
+    (λ c κs. search needs)
     loop-holds
-    block-end-requires
-    encrypt-with-requires
-    add-copy-masked
-    sub-copy-masked
-    part-copy-masked-start
-    part-copy-masked-end
-    slice-aggregate-copy-masked
+    (λ c κs. search needs)
+    (λ c κs. search needs)
+    (λ c. search needs)
+    (λ c. search needs)
+    (λ c. search needs)
+    (λ c. search needs)
+    (λ c. search needs)
     copy-masked-requires
-    inc32-requires-2
-    loop-less
+    (λ c κs. search needs)
+    (λ c. search needs)
     loop-again
     same-length
     returns)

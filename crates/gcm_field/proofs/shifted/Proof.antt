@@ -6,13 +6,10 @@ use Rattle.gcm_field.proofs.Words.{shift-one}
 use Rattle.gcm_field.proofs.shifted.Statement.{statement}
 use Rattle.gcm_field.proofs.shifted.Tie as tie
 
-mul-t4 : tie.Need-mul-t4
-mul-t4 c = search needs
-
 returns : tie.Need-returns
 returns c =
     let v = c .before .before .before .before .args .v in
     shift-one (v .hi) (v .lo) _ (omega arith) refl
 
 pub shifted-spec : {M : Type 1} → statement M
-shifted-spec = tie.close (tie.spec mul-t4 returns)
+shifted-spec = tie.close (tie.spec (λ c. search needs) returns)

@@ -5,13 +5,10 @@ use Rattle.gcm_field.proofs.Words.{shift-four}
 use Rattle.gcm_field.proofs.shifted_by_four.Statement.{statement}
 use Rattle.gcm_field.proofs.shifted_by_four.Tie as tie
 
-reduced-requires : tie.Need-reduced-requires
-reduced-requires c κs = search needs
-
 returns : tie.Need-returns
 returns c =
     let v = c .before .before .before .before .before .args .v in
     shift-four (v .hi) (v .lo) (c .before .before .reduced .result) (omega arith) (c .before .before .reduced .ensures)
 
 pub shifted-by-four-spec : {M : Type 1} → statement M
-shifted-by-four-spec = tie.close (tie.spec reduced-requires returns)
+shifted-by-four-spec = tie.close (tie.spec (λ c κs. search needs) returns)

@@ -9,15 +9,6 @@ use Rattle.gcm_table.specs.Table.{keyOf}
 use Rattle.gcm_hash.proofs.absorb_byte.Statement.{statement}
 use Rattle.gcm_hash.proofs.absorb_byte.Tie as tie
 
-put-byte-requires : tie.Need-put-byte-requires
-put-byte-requires c κs = search needs
-
-add-t9 : tie.Need-add-t9
-add-t9 c = search needs
-
-times-requires : tie.Need-times-requires
-times-requires c κs = search needs
-
 returns : tie.Need-returns
 returns c =
     let a = c .before .before .before .before .before .args in
@@ -32,4 +23,4 @@ returns-2 c =
     (ap (λ (y : ℕ). at y 0) (c .times .ensures ∙ ap (λ (x : ℕ). x • h) (c .before .before .before .put-byte .ensures)) ∙ sym (taken-last h (num (a .g .y)) (a .g .filled) (a .byte) e), omega arith)
 
 pub absorb-byte-spec : {M : Type 1} → statement M
-absorb-byte-spec = tie.close (tie.spec put-byte-requires add-t9 times-requires returns returns-2)
+absorb-byte-spec = tie.close (tie.spec (λ c κs. search needs) (λ c. search needs) (λ c κs. search needs) returns returns-2)

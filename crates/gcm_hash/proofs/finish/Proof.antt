@@ -9,21 +9,6 @@ use Rattle.gcm_table.specs.Table.{keyOf}
 use Rattle.gcm_hash.proofs.finish.Statement.{statement}
 use Rattle.gcm_hash.proofs.finish.Tie as tie
 
-pad-requires : tie.Need-pad-requires
-pad-requires c κs = search needs
-
-mul-t9 : tie.Need-mul-t9
-mul-t9 c = search needs
-
-mul-t11 : tie.Need-mul-t11
-mul-t11 c = search needs
-
-add-requires : tie.Need-add-requires
-add-requires c κs = search needs
-
-times-requires : tie.Need-times-requires
-times-requires c κs = search needs
-
 returns : tie.Need-returns
 unfolding finished
 returns c =
@@ -33,4 +18,4 @@ returns c =
     c .times .ensures ∙ ap (λ (x : ℕ). x • h) (c .before .add .ensures ∙ ap (λ (g : State). bitXor (g .y) lengths) (c .before .before .before .pad .ensures .0))
 
 pub finish-spec : {M : Type 1} → statement M
-finish-spec = tie.close (tie.spec pad-requires mul-t9 mul-t11 add-requires times-requires returns)
+finish-spec = tie.close (tie.spec (λ c κs. search needs) (λ c. search needs) (λ c. search needs) (λ c κs. search needs) (λ c κs. search needs) returns)

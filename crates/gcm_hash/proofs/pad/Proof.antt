@@ -9,9 +9,6 @@ use Rattle.gcm_table.specs.Table.{keyOf}
 use Rattle.gcm_hash.proofs.pad.Statement.{statement}
 use Rattle.gcm_hash.proofs.pad.Tie as tie
 
-times-requires : tie.Need-times-requires
-times-requires c κs = search needs
-
 returns : tie.Need-returns
 returns c =
     let a = c .before .before .before .before .args in
@@ -23,4 +20,4 @@ returns-2 c =
     (sym (closed-none (keyOf (a .table .now)) (num (a .g .y)) (a .g .filled) (omega arith)), omega arith)
 
 pub pad-spec : {M : Type 1} → statement M
-pad-spec = tie.close (tie.spec times-requires returns returns-2)
+pad-spec = tie.close (tie.spec (λ c κs. search needs) returns returns-2)

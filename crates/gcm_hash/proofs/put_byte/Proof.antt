@@ -5,24 +5,6 @@ use Rattle.gcm_hash.proofs.Adding.{put-high, put-low}
 use Rattle.gcm_hash.proofs.put_byte.Statement.{statement}
 use Rattle.gcm_hash.proofs.put_byte.Tie as tie
 
-mul-t7 : tie.Need-mul-t7
-mul-t7 c = search needs
-
-sub-t8 : tie.Need-sub-t8
-sub-t8 c = search needs
-
-shl-t10 : tie.Need-shl-t10
-shl-t10 c = search needs
-
-mul-t13 : tie.Need-mul-t13
-mul-t13 c = search needs
-
-sub-t14 : tie.Need-sub-t14
-sub-t14 c = search needs
-
-shl-t16 : tie.Need-shl-t16
-shl-t16 c = search needs
-
 returns : tie.Need-returns
 returns c =
     let a = c .before .before .args in
@@ -35,4 +17,4 @@ returns-2 c =
 
 pub put-byte-spec : {M : Type 1} → statement M
 put-byte-spec =
-    tie.close (tie.spec mul-t7 sub-t8 shl-t10 mul-t13 sub-t14 shl-t16 returns returns-2)
+    tie.close (tie.spec (λ c. search needs) (λ c. search needs) (λ c. search needs) (λ c. search needs) (λ c. search needs) (λ c. search needs) returns returns-2)

@@ -21,33 +21,6 @@ abbrev μ-loop : tie.MeasureT-loop
 loop-holds : tie.Need-loop-holds Inv-loop μ-loop
 loop-holds c = (search needs, refl, product-start (keyOf (c .args .table .now)) (c .args .x .hi) (c .args .x .lo))
 
-shr-four : tie.Need-shr-four Inv-loop μ-loop
-shr-four c = search needs
-
-four-requires : tie.Need-four-requires Inv-loop μ-loop
-four-requires c κs = search needs
-
-shr-four-2 : tie.Need-shr-four-2 Inv-loop μ-loop
-shr-four-2 c = search needs
-
-four-requires-2 : tie.Need-four-requires-2 Inv-loop μ-loop
-four-requires-2 c κs = search needs
-
-shifted-by-four-requires : tie.Need-shifted-by-four-requires Inv-loop μ-loop
-shifted-by-four-requires c κs = search needs
-
-add-requires : tie.Need-add-requires Inv-loop μ-loop
-add-requires c κs = search needs
-
-add-requires-2 : tie.Need-add-requires-2 Inv-loop μ-loop
-add-requires-2 c κs = search needs
-
-add-n : tie.Need-add-n Inv-loop μ-loop
-add-n c = search needs
-
-loop-less : tie.Need-loop-less Inv-loop μ-loop
-loop-less c = search needs
-
 loop-again : tie.Need-loop-again Inv-loop μ-loop
 loop-again c =
     let start = c .before .before .before .before .before .before .before .before .before in
@@ -73,14 +46,14 @@ times-spec =
     Inv-loop
     μ-loop
     loop-holds
-    shr-four
-    four-requires
-    shr-four-2
-    four-requires-2
-    shifted-by-four-requires
-    add-requires
-    add-requires-2
-    add-n
-    loop-less
+    (λ c. search needs)
+    (λ c κs. search needs)
+    (λ c. search needs)
+    (λ c κs. search needs)
+    (λ c κs. search needs)
+    (λ c κs. search needs)
+    (λ c κs. search needs)
+    (λ c. search needs)
+    (λ c. search needs)
     loop-again
     returns)

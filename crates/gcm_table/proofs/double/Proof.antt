@@ -22,45 +22,6 @@ abbrev μ-loop : tie.MeasureT-loop
 loop-holds : tie.Need-loop-holds Inv-loop μ-loop
 loop-holds c = (search needs, c .before .pre .0, λ h ew f e l. f e (omega arith))
 
-add-at : tie.Need-add-at Inv-loop μ-loop
-add-at c = search needs
-
-mul-at : tie.Need-mul-at Inv-loop μ-loop
-mul-at c = search needs
-
-mul-t9 : tie.Need-mul-t9 Inv-loop μ-loop
-mul-t9 c = search needs
-
-slice-read-t11 : tie.Need-slice-read-t11 Inv-loop μ-loop
-slice-read-t11 c = search needs
-
-add-t12 : tie.Need-add-t12 Inv-loop μ-loop
-add-t12 c = search needs
-
-mul-t13 : tie.Need-mul-t13 Inv-loop μ-loop
-mul-t13 c = search needs
-
-slice-read-t15 : tie.Need-slice-read-t15 Inv-loop μ-loop
-slice-read-t15 c = search needs
-
-add-set-entry : tie.Need-add-set-entry Inv-loop μ-loop
-add-set-entry c = search needs
-
-add-set-entry-2 : tie.Need-add-set-entry-2 Inv-loop μ-loop
-add-set-entry-2 c = search needs
-
-add-requires : tie.Need-add-requires Inv-loop μ-loop
-add-requires c κs = search needs
-
-set-entry-requires : tie.Need-set-entry-requires Inv-loop μ-loop
-set-entry-requires c κs = search needs
-
-add-k : tie.Need-add-k Inv-loop μ-loop
-add-k c = search needs
-
-loop-less : tie.Need-loop-less Inv-loop μ-loop
-loop-less c = search needs
-
 loop-again : tie.Need-loop-again Inv-loop μ-loop
 loop-again c =
     let start = c .before .before .before .before .before .before .before .before .before .before in
@@ -75,9 +36,6 @@ loop-again c =
           (set .ensures) (sum .ensures) ew (l .inv .2 h ew f),
     )
 
-same-length : tie.Need-same-length Inv-loop μ-loop
-same-length c = search needs
-
 returns : tie.Need-returns Inv-loop μ-loop
 returns c = λ h ew f e l. c .before .loop .inv .2 h ew f e (omega arith)
 
@@ -88,19 +46,19 @@ double-spec =
     Inv-loop
     μ-loop
     loop-holds
-    add-at
-    mul-at
-    mul-t9
-    slice-read-t11
-    add-t12
-    mul-t13
-    slice-read-t15
-    add-set-entry
-    add-set-entry-2
-    add-requires
-    set-entry-requires
-    add-k
-    loop-less
+    (λ c. search needs)
+    (λ c. search needs)
+    (λ c. search needs)
+    (λ c. search needs)
+    (λ c. search needs)
+    (λ c. search needs)
+    (λ c. search needs)
+    (λ c. search needs)
+    (λ c. search needs)
+    (λ c κs. search needs)
+    (λ c κs. search needs)
+    (λ c. search needs)
+    (λ c. search needs)
     loop-again
-    same-length
+    (λ c. search needs)
     returns)

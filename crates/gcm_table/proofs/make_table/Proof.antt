@@ -20,21 +20,6 @@ abbrev μ-loop : tie.MeasureT-loop
 loop-holds : tie.Need-loop-holds Inv-loop μ-loop
 loop-holds c = (search needs, refl, refl, sym (nexts-none (num (c .args .h))), λ j k. absurd (omega arith))
 
-slice-aggregate-fill-run : tie.Need-slice-aggregate-fill-run Inv-loop μ-loop
-slice-aggregate-fill-run c = search needs
-
-fill-run-requires : tie.Need-fill-run-requires Inv-loop μ-loop
-fill-run-requires c κs = search needs
-
-next-run-requires : tie.Need-next-run-requires Inv-loop μ-loop
-next-run-requires c κs = search needs
-
-add-e : tie.Need-add-e Inv-loop μ-loop
-add-e c = search needs
-
-loop-less : tie.Need-loop-less Inv-loop μ-loop
-loop-less c = search needs
-
 loop-again : tie.Need-loop-again Inv-loop μ-loop
 loop-again c =
     let l = c .before .before .before .before .before .loop in
@@ -60,10 +45,10 @@ make-table-spec =
     Inv-loop
     μ-loop
     loop-holds
-    slice-aggregate-fill-run
-    fill-run-requires
-    next-run-requires
-    add-e
-    loop-less
+    (λ c. search needs)
+    (λ c κs. search needs)
+    (λ c κs. search needs)
+    (λ c. search needs)
+    (λ c. search needs)
     loop-again
     returns)

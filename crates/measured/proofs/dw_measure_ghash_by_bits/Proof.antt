@@ -8,15 +8,6 @@ use Rattle.gcm_hash.specs.Hash.{ghash}
 use Rattle.measured.proofs.dw_measure_ghash_by_bits.Statement.{statement}
 use Rattle.measured.proofs.dw_measure_ghash_by_bits.Tie as tie
 
-load-block-requires : tie.Need-load-block-requires
-load-block-requires c κs = search needs
-
-hash-requires : tie.Need-hash-requires
-hash-requires c κs = search needs
-
-spelled-requires : tie.Need-spelled-requires
-spelled-requires c κs = search needs
-
 returns : tie.Need-returns
 returns c =
     let block = c .before .before in
@@ -27,4 +18,4 @@ returns c =
 
 pub dw-measure-ghash-by-bits-spec : {M : Type 1} → statement M
 dw-measure-ghash-by-bits-spec =
-    tie.close (tie.spec load-block-requires hash-requires spelled-requires returns)
+    tie.close (tie.spec (λ c κs. search needs) (λ c κs. search needs) (λ c κs. search needs) returns)

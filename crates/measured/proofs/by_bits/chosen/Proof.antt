@@ -12,8 +12,5 @@ mul-t3 c = omega (arith, digit-times (c .before .args .bit) (c .before .args .v 
 mul-t4 : tie.Need-mul-t4
 mul-t4 c = omega (arith, digit-times (c .before .before .args .bit) (c .before .before .args .v .lo) (2 ^ 64) (omega arith) (omega arith))
 
-returns : tie.Need-returns
-returns c = search needs
-
 pub chosen-spec : {M : Type 1} → statement M
-chosen-spec = tie.close (tie.spec mul-t3 mul-t4 returns)
+chosen-spec = tie.close (tie.spec mul-t3 mul-t4 (λ c. search needs))

@@ -8,12 +8,6 @@ use Rattle.measured.proofs.ByBits.{both-words}
 use Rattle.measured.proofs.by_bits.times.Statement.{statement}
 use Rattle.measured.proofs.by_bits.times.Tie as tie
 
-through-requires : tie.Need-through-requires
-through-requires c κs = search needs
-
-through-requires-2 : tie.Need-through-requires-2
-through-requires-2 c κs = search needs
-
 returns : tie.Need-returns
 returns c =
     let a = c .before .before .before .args in
@@ -21,4 +15,4 @@ returns c =
     c .before .through2 .ensures .0 ∙ ap₂ (λ (z v : ℕ). steps 64 (a .x .lo) z v) (first .0) (first .1) ∙ both-words (a .x .hi) (a .x .lo) (num (a .h)) (omega arith)
 
 pub times-spec : {M : Type 1} → statement M
-times-spec = tie.close (tie.spec through-requires through-requires-2 returns)
+times-spec = tie.close (tie.spec (λ c κs. search needs) (λ c κs. search needs) returns)
