@@ -108,16 +108,24 @@ static struct bytes part(const struct bytes *datagram, const uint64_t *place)
     return bytes_of(datagram->at + place[0], (size_t)place[1]);
 }
 
+/* The IDs and the token of a datagram, by their places in a report; a header that is only read has no number yet. */
+static void take_fields(const struct bytes *datagram, const uint64_t *destination, const uint64_t *source,
+                        const uint64_t *token, struct initial *header)
+{
+    header->destination = part(datagram, destination);
+    header->source = part(datagram, source);
+    header->token = part(datagram, token);
+    header->number = 0;
+    header->number_length = 0;
+}
+
 uint32_t read_initial(const struct bytes *datagram, uint32_t *version, struct initial *header)
 {
     uint64_t report[DW_HEADER_REPORT] = {0};
     uint32_t answer = dw_read_header(datagram->at, datagram->length, report);
     *version = (uint32_t)report[DW_HEADER_VERSION];
-    header->destination = part(datagram, report + DW_HEADER_DESTINATION_AT);
-    header->source = part(datagram, report + DW_HEADER_SOURCE_AT);
-    header->token = part(datagram, report + DW_HEADER_TOKEN_AT);
-    header->number = 0;
-    header->number_length = 0;
+    take_fields(datagram, report + DW_HEADER_DESTINATION_AT, report + DW_HEADER_SOURCE_AT, report + DW_HEADER_TOKEN_AT,
+                header);
     return answer;
 }
 
@@ -127,11 +135,8 @@ uint32_t check_retry(const struct bytes *original, const struct bytes *datagram,
     uint64_t report[DW_CHECKED_REPORT] = {0};
     uint32_t answer = dw_check_retry(original->at, original->length, datagram->at, datagram->length, report);
     *version = (uint32_t)report[DW_CHECKED_VERSION];
-    header->destination = part(datagram, report + DW_CHECKED_DESTINATION_AT);
-    header->source = part(datagram, report + DW_CHECKED_SOURCE_AT);
-    header->token = part(datagram, report + DW_CHECKED_TOKEN_AT);
-    header->number = 0;
-    header->number_length = 0;
+    take_fields(datagram, report + DW_CHECKED_DESTINATION_AT, report + DW_CHECKED_SOURCE_AT,
+                report + DW_CHECKED_TOKEN_AT, header);
     return answer;
 }
 

@@ -1,5 +1,5 @@
 // What is answered: a row for each value, and a refusal by its number and its words.
-use terminal::words::word;
+use terminal_words::word;
 ghost use mathlib.Core.Path.{_≡_};
 ghost use Rattle.console.specs.Answers.{inside};
 

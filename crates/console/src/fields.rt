@@ -2,12 +2,12 @@
 use digits_numbers::Number;
 use digits_numbers::read_number;
 use digits_reading::decode;
-use terminal::words::word;
+use terminal_words::word;
 ghost use mathlib.Core.Path.{_≡_};
 ghost use Rattle.io.specs.Counts.{Counts};
 ghost use Rattle.digits_numbers.specs.Numbers.{numberOf};
 ghost use Rattle.digits_reading.specs.Digits.{Decoded};
-ghost use Rattle.terminal.specs.Words.{wordOf};
+ghost use Rattle.terminal_words.specs.Words.{wordOf};
 ghost use Rattle.console.specs.Fields.{valueOr0};
 
 // What ends a word of a call.

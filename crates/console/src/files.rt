@@ -1,13 +1,14 @@
 // Files that a call names.
 use libc::STDIN_FILENO;
-use terminal::words::count;
-use terminal::words::same;
+use terminal_words::count;
+use terminal_words::same;
 ghost use mathlib.Core.Bool.{true};
 ghost use mathlib.Core.Path.{_≡_};
 ghost use Prim.Native.Nat.{_+_, _-_, _^_, min};
 ghost use lib.IntN.{pos};
 ghost use Rattle.octets.specs.Octets as Octets;
-ghost use Rattle.console.specs.Files.{dash, isComment};
+ghost use Rattle.console.specs.Fields.{dash};
+ghost use Rattle.console.specs.Files.{isComment};
 
 // A descriptor of the file to be read, - being standard input; below 0 where it cannot be opened, which is said.
 pub fn open(path: &[u8]) -> i32
@@ -30,9 +31,6 @@ pub fn is_comment(text: &[u8]) -> bool
     ensures { λ r. ⌜ r ≡ isComment (now (text .entry)) ⌝ }
 {
     if count(text, b' ') == 0 {
-        return true;
-    }
-    if text.len() == 0 {
         return true;
     }
     text[0] == b'#'

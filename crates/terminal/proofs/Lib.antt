@@ -1,2 +1,1 @@
-pub mod Separators
 pub mod Blanks

@@ -1,7 +1,6 @@
-// Text at a terminal: what programs of this repository print, the words that they are given, and files read by lines.
+// Text at a terminal: what programs of this repository print, and files read by lines.
 pub mod lines;
 pub mod print;
-pub mod words;
 
 pub use print::say;
 pub use print::say_hex;

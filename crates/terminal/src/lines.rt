@@ -34,7 +34,7 @@ pub struct Line {
 
 // A file from its start on.
 pub fn from_start(file: i32) -> Source
-    ensures { λ r. ⌜ (r .at ≡ 0) × (r .end ≡ 0) ⌝ }
+    ensures { λ r. ⌜ (r .file ≡ file) × (r .at ≡ 0) × (r .end ≡ 0) ⌝ }
 {
     Source {
         file,

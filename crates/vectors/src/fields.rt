@@ -4,8 +4,8 @@ use console::fields::END;
 use console::fields::number;
 use console::fields::value;
 use digits_reading::decode;
-use terminal::words::count;
-use terminal::words::word;
+use terminal_words::count;
+use terminal_words::word;
 ghost use Prim.Native.Nat.{_≤_};
 ghost use Rattle.io.specs.Counts.{Counts};
 

@@ -14,9 +14,9 @@ use terminal::lines::Ending;
 use terminal::lines::blanks_to_zeros;
 use terminal::lines::from_start;
 use terminal::lines::read_line;
-use terminal::words::next_separator;
-use terminal::words::same;
-use terminal::words::word;
+use terminal_words::next_separator;
+use terminal_words::same;
+use terminal_words::word;
 
 // A call on keys and packets.
 fn packet_call(command: &[u8], line: &[u8]) {

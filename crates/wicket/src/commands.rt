@@ -1,9 +1,9 @@
 // A call that is well made, by its command.
-use console::calls::is_well_made;
-use console::calls::wrong;
 use console::fields::END;
-use terminal::words::same;
-use terminal::words::word;
+use console_calls::is_well_made;
+use console_words::wrong;
+use terminal_words::same;
+use terminal_words::word;
 
 // A call of any command but script.
 fn make(command: &[u8], line: &[u8]) {

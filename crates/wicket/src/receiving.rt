@@ -1,6 +1,5 @@
 // wicket receive: the datagrams of a file, one after the other, through one receiver.
 use console::answers;
-use console::calls;
 use console::fields;
 use console::fields::END;
 use console::files;
@@ -11,8 +10,8 @@ use terminal::lines::Ending;
 use terminal::lines::blanks_to_zeros;
 use terminal::lines::from_start;
 use terminal::lines::read_line;
-use terminal::words::count;
-use terminal::words::word;
+use terminal_words::count;
+use terminal_words::word;
 use wicket_words::keys_of;
 
 // How many bytes of a payload are shown.
@@ -101,12 +100,12 @@ fn take(keys: Keys, expected: &mut u64, text: &mut [u8], line: u64, tally: Tally
     terminal::say_right(line, 5);
     terminal::say(b"  ");
     if words != 1 {
-        calls::wrong(b"line");
+        console_words::wrong(b"line");
         terminal::say(b"more than one word\n");
         return missed(tally);
     }
     let datagram = word(text, 0, END);
-    if !calls::is_hex(datagram, b"datagram") {
+    if !console_words::is_hex(datagram, b"datagram") {
         return missed(tally);
     }
     arrive(keys, expected, datagram, tally)

@@ -1,16 +1,16 @@
 // wicket script: the calls of a file, one after the other; and the program's own call.
 use crate::commands;
 use console::arguments::gather;
-use console::calls::is_well_made;
-use console::calls::wrong;
 use console::fields::END;
 use console::files;
+use console_calls::is_well_made;
+use console_words::wrong;
 use terminal::lines::Ending;
 use terminal::lines::blanks_to_zeros;
 use terminal::lines::from_start;
 use terminal::lines::read_line;
-use terminal::words::same;
-use terminal::words::word;
+use terminal_words::same;
+use terminal_words::word;
 
 // One line of a script: a call, which is shown before its answer, or a comment or nothing, which is shown.
 fn take(text: &mut [u8], manual: &[u8]) {

@@ -1,16 +1,16 @@
 -- What the words of a call name of a packet.
 use Prim.Native.Nat.{ℕ, _^_}
-use mathlib.Core.Bool.{Bool, true, false, cond}
-use mathlib.Core.List.{List, [], _∷_}
-use mathlib.Core.Path.{_≡_}
+use mathlib.Core.Bool.{cond}
+use mathlib.Core.List.{List}
 use lib.Dec.{ltb}
 use lib.ListN.{take}
 use Rattle.octets.specs.Octets.{same}
-use Rattle.digits_reading.specs.Digits.{Decoded}
+use Rattle.octets.specs.Text.{ascii}
+use Rattle.digits_reading.specs.Digits.{pairs}
 use Rattle.digits_numbers.specs.Numbers.{numberOf}
-use Rattle.terminal.specs.Words.{wordOf}
-use Rattle.console.specs.Fields.{valueOr0}
-use Rattle.numbers_shortening.specs.Shortening as Section17
+use Rattle.terminal_words.specs.Words.{wordOf}
+use Rattle.console.specs.Fields.{dash, valueOr0}
+use Rattle.numbers_shortening.specs.Shortening.{Acknowledged, nothing, upTo}
 use Rattle.keys.specs.Answers.{InitialKeysMade}
 use Rattle.keys.specs.declared.InitialKeys.{InitialKeys}
 use Rattle.keys.specs.declared.Side.{Side}
@@ -24,35 +24,18 @@ numberAt line i = valueOr0 (numberOf (wordOf 0 line i))
 unfoldable pub versionAt : List ℕ → ℕ → ℕ
 versionAt line i = cond (ltb (numberAt line i) (2 ^ 32)) (numberAt line i) 0
 
--- the server's packets, or else the client's
-abbrev pub sideBy : Bool → Side
-sideBy true = Server
-sideBy false = Client
-
--- `server` in characters
-abbrev pub server : List ℕ
-server = 115 ∷ 101 ∷ 114 ∷ 118 ∷ 101 ∷ 114 ∷ []
-
--- the side that a word names
+-- the side that a word names: the server, or else the client
 abbrev pub sideAt : List ℕ → ℕ → Side
-sideAt line i = sideBy (same (wordOf 0 line i) server)
-
-abbrev pub acknowledgedBy : Bool → ℕ → Section17.Acknowledged
-acknowledgedBy true n = Section17.nothing
-acknowledgedBy false n = Section17.upTo n
+sideAt line i = cond (same (wordOf 0 line i) (ascii "server")) Server Client
 
 -- the greatest number acknowledged, by a word; - is none
-abbrev pub acknowledgedAt : List ℕ → ℕ → Section17.Acknowledged
-acknowledgedAt line i = acknowledgedBy (same (wordOf 0 line i) (45 ∷ [])) (numberAt line i)
+abbrev pub acknowledgedAt : List ℕ → ℕ → Acknowledged
+acknowledgedAt line i = cond (same (wordOf 0 line i) dash) nothing (upTo (numberAt line i))
+
+-- the bytes that a word spells, as many as a page holds
+abbrev pub bytesAt : List ℕ → ℕ → List ℕ
+bytesAt line i = take 4096 (pairs (wordOf 0 line i))
 
 -- the keys of the version, the ID and the side that the first three words behind a command name
-pub record KeysNamed (line : List ℕ) (r : InitialKeys) : Type 0 where
-  pub version : ℕ
-  pub versionIs : version ≡ versionAt line 1
-  pub page : List ℕ
-  pub held : List ℕ
-  pub count : ℕ
-  pub idIs : Decoded (wordOf 0 line 2) page held count
-  pub side : Side
-  pub sideIs : side ≡ sideAt line 3
-  pub made : InitialKeysMade version (take count held) side r
+abbrev pub KeysNamed : List ℕ → InitialKeys → Type 0
+KeysNamed line = InitialKeysMade (versionAt line 1) (bytesAt line 2) (sideAt line 3)

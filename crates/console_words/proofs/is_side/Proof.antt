@@ -1,0 +1,34 @@
+-- The two tests, in their order.
+use Rattle.console_words.specs.Words.{isSide}
+use Rattle.octets.specs.Text.{ascii}
+use borrow.Author.Needs.{needs}
+use mathlib.Core.Path.{sym, _∙_}
+use Rattle.console_words.proofs.is_side.Statement.{statement}
+use Rattle.console_words.proofs.is_side.Tie as tie
+
+returns : tie.Need-returns
+unfolding isSide ascii
+returns c = rw (sym (c .before .same .ensures) ∙ c .if1 .taken)
+
+returns-2 : tie.Need-returns-2
+unfolding isSide ascii
+returns-2 c = rw (sym (c .before .before .before .before .same .ensures) ∙ c .before .before .before .if1 .left, sym (c .before .same2 .ensures) ∙ c .if2 .taken)
+
+returns-3 : tie.Need-returns-3
+unfolding isSide ascii
+returns-3 c = rw (sym (c .before .before .before .before .before .before .before .same .ensures) ∙ c .before .before .before .before .before .before .if1 .left, sym (c .before .before .before .before .same2 .ensures) ∙ c .before .before .before .if2 .left)
+
+pub is-side-spec : {M : Type 1} → statement M
+is-side-spec =
+    tie.close
+    (tie.spec
+    (λ c. search needs)
+    (λ c κs. search needs)
+    returns
+    (λ c. search needs)
+    (λ c κs. search needs)
+    returns-2
+    (λ c κs. search needs)
+    (λ c. search needs)
+    (λ c κs. search needs)
+    returns-3)
