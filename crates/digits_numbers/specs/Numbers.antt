@@ -1,6 +1,6 @@
 -- The number that digits spell in a base.
 use Prim.Native.Nat.{ℕ, _+_, _*_, _^_}
-use mathlib.Core.Bool.{Bool, true, false, _&&_}
+use mathlib.Core.Bool.{Bool, cond, _&&_}
 use mathlib.Core.List.{List, foldl}
 use lib.Dec.{leb, ltb, eqb}
 use lib.ListN.{length, getD, drop}
@@ -16,17 +16,13 @@ readOn base = foldl (λ n c. n * base + valueOf c)
 abbrev pub spelled : ℕ → List ℕ → ℕ
 spelled base = readOn base 0
 
-abbrev pub either : Bool → Number → Number → Number
-either true a b = a
-either false a b = b
-
 -- the number that digits spell, where it fits 64 bits
 unfoldable pub fitting : ℕ → List ℕ → Number
-fitting base t = either (ltb (spelled base t) (2 ^ 64)) (Value (spelled base t)) TooLarge
+fitting base t = cond (ltb (spelled base t) (2 ^ 64)) (Value (spelled base t)) TooLarge
 
 -- the number that a text spells, if it is made of digits, one or more
 unfoldable pub numberIn : ℕ → List ℕ → Number
-numberIn base t = either (leb 1 (length t) && leb (length t) (run base t)) (fitting base t) NoNumber
+numberIn base t = cond (leb 1 (length t) && leb (length t) (run base t)) (fitting base t) NoNumber
 
 -- whether a text is marked as hex: by 0x, with something behind it
 unfoldable pub marked : List ℕ → Bool
@@ -34,4 +30,4 @@ marked t = ltb 2 (length t) && (eqb (getD t 0 0) 48 && eqb (getD t 1 0) 120)
 
 -- the number that a text spells: in hex behind 0x, and else in decimal
 unfoldable pub numberOf : List ℕ → Number
-numberOf t = either (marked t) (numberIn 16 (drop 2 t)) (numberIn 10 t)
+numberOf t = cond (marked t) (numberIn 16 (drop 2 t)) (numberIn 10 t)

@@ -13,6 +13,7 @@ pub record Sealable (p : Plain) : Type 0 where
   pub short-source : length (p .source) ≤ longestId
   pub enough : 4 ≤ p .numberLength + length (p .payload)
 
+-- how long its packet is: the first byte, the version, a length before each ID and Length itself are 1 + 4 + 1 + 1 + 2 bytes
 abbrev pub sizeOf : Plain → ℕ
 sizeOf p = 9 + length (p .destination) + length (p .source) + length (smallest (length (p .token))) + length (p .token) + lengthOf p
 

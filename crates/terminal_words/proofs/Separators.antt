@@ -1,6 +1,6 @@
 -- Words of a text, one character a turn.
 use Prim.Native.Nat.{ℕ, suc, _+_, _-_, _<_, _≤_}
-use mathlib.Core.Bool.{true, false}
+use mathlib.Core.Bool.{Bool, true, false}
 use mathlib.Core.List.{List}
 use mathlib.Core.Path.{_≡_, sym, ap, _∙_}
 use native.Mathlib.Numerals.{add-one}
@@ -10,33 +10,21 @@ use native.Mathlib.Omega.{arith}
 use lib.ListN.{length, getD, take, drop, drop-of-length-le}
 use lib.Seq.{drop-cons}
 use Rattle.octets.specs.Octets.{part}
-use Rattle.terminal_words.specs.Words.{until, over, endAt, pastAt, wordAt, wordOf, startsAt, wordsUpTo}
+use Rattle.terminal_words.specs.Words.{until, is, endAt, pastAt, wordAt, wordOf, startsAt, wordsUpTo}
 
--- ---- what stands before the first separator, and the separators at the start
-module _ (s : ℕ) (t : List ℕ) (i : ℕ) where
-  pub until-turn : i < length t → (getD t i 0 ≡ s → ⊥) → until s (drop i t) ≡ suc (until s (drop (i + 1) t))
+-- ---- what stands before the first character that a test finds
+module _ (test : ℕ → Bool) (t : List ℕ) (i : ℕ) where
+  pub until-turn : i < length t → test (getD t i 0) ≡ false → until test (drop i t) ≡ suc (until test (drop (i + 1) t))
   unfolding until
-  until-turn l h = rw (drop-cons t i 0 l, add-one i, ne-eqb (getD t i 0) s h)
+  until-turn l h = rw (drop-cons t i 0 l, add-one i, h)
 
-  pub until-stops : i < length t → getD t i 0 ≡ s → until s (drop i t) ≡ 0
+  pub until-stops : i < length t → test (getD t i 0) ≡ true → until test (drop i t) ≡ 0
   unfolding until
-  until-stops l h = rw (drop-cons t i 0 l, eq-eqb (getD t i 0) s h)
+  until-stops l h = rw (drop-cons t i 0 l, h)
 
-  pub until-ends : length t ≤ i → until s (drop i t) ≡ 0
+  pub until-ends : length t ≤ i → until test (drop i t) ≡ 0
   unfolding until
-  until-ends l = ap (until s) (drop-of-length-le t l)
-
-  pub over-turn : i < length t → getD t i 0 ≡ s → over s (drop i t) ≡ suc (over s (drop (i + 1) t))
-  unfolding over
-  over-turn l h = rw (drop-cons t i 0 l, add-one i, eq-eqb (getD t i 0) s h)
-
-  pub over-stops : i < length t → (getD t i 0 ≡ s → ⊥) → over s (drop i t) ≡ 0
-  unfolding over
-  over-stops l h = rw (drop-cons t i 0 l, ne-eqb (getD t i 0) s h)
-
-  pub over-ends : length t ≤ i → over s (drop i t) ≡ 0
-  unfolding over
-  over-ends l = ap (over s) (drop-of-length-le t l)
+  until-ends l = ap (until test) (drop-of-length-le t l)
 
 -- ---- whether a word starts at a place
 module _ (s : ℕ) (t : List ℕ) (at : ℕ) where
@@ -77,5 +65,5 @@ word-next s t i a e p ea ee ep = ep ∙ ap (pastAt s t) (ee ∙ ap (endAt s t) e
 -- the word of an index, from its start to the separator behind it
 pub word-part : (s : ℕ) (t : List ℕ) (i a e : ℕ) → a ≡ wordAt s t i → e ≡ endAt s t a → part t a (e - a) ≡ wordOf s t i
 word-part s t i a e ea ee =
-    let long : e - a ≡ until s (drop a t) = omega arith in
-    ap (λ (n : ℕ). take n (drop a t)) long ∙ ap (λ (k : ℕ). part t k (until s (drop k t))) ea
+    let long : e - a ≡ until (is s) (drop a t) = omega arith in
+    ap (λ (n : ℕ). take n (drop a t)) long ∙ ap (λ (k : ℕ). part t k (until (is s) (drop k t))) ea

@@ -6,23 +6,25 @@ use lib.Dec.{eqb, ltb}
 use lib.ListN.{length, getD, drop}
 use Rattle.octets.specs.Octets.{part}
 
--- how many characters stand before the first separator
-unfoldable pub until : ℕ → List ℕ → ℕ
-until s [] = 0
-until s (c ∷ t) = cond (eqb c s) 0 (suc (until s t))
+-- how many characters stand before the first that a test finds
+unfoldable pub until : (ℕ → Bool) → List ℕ → ℕ
+until test [] = 0
+until test (c ∷ t) = cond (test c) 0 (suc (until test t))
 
--- how many separators stand at the start
-unfoldable pub over : ℕ → List ℕ → ℕ
-over s [] = 0
-over s (c ∷ t) = cond (eqb c s) (suc (over s t)) 0
+-- whether a character is the separator, or is not
+abbrev pub is : ℕ → ℕ → Bool
+is s c = eqb c s
+
+abbrev pub isNot : ℕ → ℕ → Bool
+isNot s c = not (eqb c s)
 
 -- from a place on, where a separator stands, or the end
 abbrev pub endAt : ℕ → List ℕ → ℕ → ℕ
-endAt s t at = at + until s (drop at t)
+endAt s t at = at + until (is s) (drop at t)
 
 -- from a place on, where a character stands that is no separator, or the end
 abbrev pub pastAt : ℕ → List ℕ → ℕ → ℕ
-pastAt s t at = at + over s (drop at t)
+pastAt s t at = at + until (isNot s) (drop at t)
 
 -- where the word of an index starts, counted from 0, or the end where there are fewer
 unfoldable pub wordAt : ℕ → List ℕ → ℕ → ℕ
@@ -31,7 +33,7 @@ wordAt s t (suc i) = pastAt s t (endAt s t (wordAt s t i))
 
 -- the word of an index, and nothing where there are fewer
 abbrev pub wordOf : ℕ → List ℕ → ℕ → List ℕ
-wordOf s t i = part t (wordAt s t i) (until s (drop (wordAt s t i) t))
+wordOf s t i = part t (wordAt s t i) (until (is s) (drop (wordAt s t i) t))
 
 -- whether a word starts at a place: at a character that is no separator, the text's first or one behind a separator
 unfoldable pub startsAt : ℕ → List ℕ → ℕ → Bool
