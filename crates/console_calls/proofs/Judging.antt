@@ -1,6 +1,6 @@
 -- What the tests on the way say of a call.
 use Prim.Native.Nat.{ℕ, suc, _+_, _-_, _<_, _≤_}
-use mathlib.Core.Bool.{Bool, true, false, _&&_}
+use mathlib.Core.Bool.{true, false, and-false}
 use mathlib.Core.List.{List, [], _∷_}
 use mathlib.Core.Path.{_≡_, refl, sym, ap, _∙_}
 use native.Mathlib.Omega.{arith}
@@ -48,10 +48,6 @@ module _ (line usage : List ℕ) (counted : enough line usage ≡ true) (i : ℕ
       let even : wordCount 0 line - 1 ≡ wordCount 32 usage - 2 = eqb-true _ _ counted in
       let named : wordCount 32 usage ≤ i + 1 = omega arith in
       rw (words-none 0 line i m, words-none 32 usage (i + 1) named)
-
-and-false : (b : Bool) → b && false ≡ false
-and-false true = refl
-and-false false = refl
 
 -- a word more or less than there are names
 uneven : (ts ns : List (List ℕ)) → (length ts ≡ length ns → ⊥) → areRight ts ns ≡ false

@@ -7,7 +7,7 @@ ghost use mathlib.Core.Path.{_≡_};
 ghost use Rattle.console_words.specs.Words.{isHex, isNumber, isSide, isCount, isRight};
 
 // The largest version.
-const VERSIONS: u64 = 0xffffffff;
+pub const VERSIONS: u64 = 0xffffffff;
 
 // What is wrong with something of a name follows.
 pub fn wrong(name: &[u8]) {

@@ -1,6 +1,7 @@
 // The words of a call that name something of a packet: a version, a side, the greatest number acknowledged, keys.
 use console::fields;
 use console::fields::END;
+use console_words::VERSIONS;
 use keys::InitialKeys;
 use keys::Side;
 use keys::initial_keys;
@@ -11,9 +12,6 @@ use terminal_words::word;
 ghost use mathlib.Core.Path.{_≡_};
 ghost use Rattle.numbers_shortening.specs.Answers.{acknowledgedOf};
 ghost use Rattle.wicket_words.specs.Named.{versionAt, sideAt, acknowledgedAt, KeysNamed};
-
-// The largest version.
-const VERSIONS: u64 = 0xffffffff;
 
 // The version that a word of a call spells, and 0, which is none, where it spells none.
 pub fn version(line: &[u8], index: usize) -> u32
