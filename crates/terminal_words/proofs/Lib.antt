@@ -1,2 +1,3 @@
 pub mod Separators
 pub mod Lists
+pub mod Agreement
