@@ -5,7 +5,7 @@ use mathlib.Core.List.{List, []}
 use mathlib.Core.Logic.{_⊎_, inl, inr, ⊎-elim}
 use mathlib.Core.Path.{_≡_, refl, sym, ap, subst, _∙_}
 use native.Mathlib.Omega.{arith}
-use borrow.Author.Tests.{eqb-true, eqb-false, ltb-true, ltb-false}
+use borrow.Author.Tests.{eqb-true, eqb-false, ltb-true, ltb-false, not-true, not-false}
 use lib.Dec.{eqb, ltb}
 use lib.ListN.{length, getD, take, drop, length-take, length-drop, drop-of-length-le}
 use lib.Seq.{take-nil}
@@ -13,70 +13,66 @@ use Rattle.terminal_words.specs.Words.{until, is, isNot, endAt, pastAt, 
 use Rattle.terminal_words.proofs.Separators.{until-turn, until-stops, until-ends, starts-not, starts-first, starts-behind, count-one, count-none}
 
 module _ (s : ℕ) (t : List ℕ) where
-  -- ---- from a place on, over separators: no word starts among them
-  record Passed (p q : ℕ) : Type 0 where
+  -- ---- from a place on, up to the first character that a test finds, where no word starts on the way
+  record Walked (test : ℕ → Bool) (p q : ℕ) : Type 0 where
     inside : q ≤ length t
     counted : wordsUpTo s t q ≡ wordsUpTo s t p
-    ahead : q < length t → eqb (getD t q 0) s ≡ false
-    behind : p < q → eqb (getD t (q - 1) 0) s ≡ true
+    ahead : q < length t → test (getD t q 0) ≡ true
+    behind : p < q → test (getD t (q - 1) 0) ≡ false
 
-  stays : (p q : ℕ) → q ≡ p → p ≤ length t → (p < length t → eqb (getD t p 0) s ≡ false) → Passed p q
-  stays p q e h f =
-      subst (Passed p) (sym e) (record { inside = h; counted = refl; ahead = f; behind = λ l. absurd (omega arith) })
+  module _ (test : ℕ → Bool) where
+    stays : (p q : ℕ) → q ≡ p → p ≤ length t → (p < length t → test (getD t p 0) ≡ true) → Walked test p q
+    stays p q e h f =
+        subst (Walked test p) (sym e) (record { inside = h; counted = refl; ahead = f; behind = λ l. absurd (omega arith) })
 
-  goes-over : (p q : ℕ) → p < length t → eqb (getD t p 0) s ≡ true → p + 1 ≤ q → Passed (p + 1) q → Passed p q
-  goes-over p q l e m rest = record {
-    inside = rest .inside;
-    counted = rest .counted ∙ count-none s t p (starts-not s t p l (eqb-true _ _ e));
-    ahead = rest .ahead;
-    behind = λ n. by (ltb (p + 1) q) refl;
-  }
+    goes-on : (p q : ℕ) → p + 1 ≤ q → test (getD t p 0) ≡ false → startsAt s t p ≡ false → Walked test (p + 1) q → Walked test p q
+    goes-on p q m e none rest = record {
+      inside = rest .inside;
+      counted = rest .counted ∙ count-none s t p none;
+      ahead = rest .ahead;
+      behind = λ n. by (ltb (p + 1) q) refl;
+    }
+      where
+        by : (b : Bool) → ltb (p + 1) q ≡ b → test (getD t (q - 1) 0) ≡ false
+        by true h = rest .behind (ltb-true (p + 1) q h)
+        by false h = let last : q - 1 ≡ p = omega (arith, ltb-false (p + 1) q h) in rw last e
+
+    -- what holds at a place keeps a word from starting there, and holds at the next
+    module _ (Holds : ℕ → Type 0)
+        (keeps : (k : ℕ) → k < length t → test (getD t k 0) ≡ false → Holds k → (startsAt s t k ≡ false) × Holds (k + 1)) where
+      walks : (left p : ℕ) → p ≤ length t → length t ≤ p + left → Holds p → Walked test p (p + until test (drop p t))
+      walks zero p h l w = stays p _ (omega (arith, until-ends test t p (omega arith))) h (λ n. absurd (omega arith))
+      walks (suc left) p h l w = by (walks left (p + 1)) (ltb p (length t)) refl (test (getD t p 0)) refl
+        where
+          by : (p + 1 ≤ length t → length t ≤ p + 1 + left → Holds (p + 1) → Walked test (p + 1) (p + 1 + until test (drop (p + 1) t)))
+              → (more : Bool) → ltb p (length t) ≡ more → (found : Bool) → test (getD t p 0) ≡ found → Walked test p (p + until test (drop p t))
+          by rest false m found e =
+              let end = ltb-false p (length t) m in
+              stays p _ (omega (arith, until-ends test t p end)) h (λ n. absurd (omega arith))
+          by rest true m true e = stays p _ (omega (arith, until-stops test t p (ltb-true p (length t) m) e)) h (λ n. e)
+          by rest true m false e =
+              let more = ltb-true p (length t) m in
+              let next : p + 1 + until test (drop (p + 1) t) ≡ p + until test (drop p t) = omega (arith, until-turn test t p more e) in
+              let kept = keeps p more e w in
+              goes-on p _ (omega arith) e (kept .0) (subst (Walked test (p + 1)) next (rest (omega arith) (omega arith) (kept .1)))
+
+  -- over separators
+  passes : (p : ℕ) → p ≤ length t → Walked (isNot s) p (pastAt s t p)
+  passes p h =
+      walks (isNot s) (λ k. Unit {0}) (λ k l e w. (starts-not s t k l (eqb-true _ _ (not-false _ e)), tt)) (length t) p h (omega arith) tt
+
+  -- over the rest of a word, from behind a character of it on
+  abbrev Within : ℕ → Type 0
+  Within k = (1 ≤ k) × (eqb (getD t (k - 1) 0) s ≡ false)
+
+  runs : (p : ℕ) → p ≤ length t → Within p → Walked (is s) p (endAt s t p)
+  runs p h w = walks (is s) Within keeps (length t) p h (omega arith) w
     where
-      by : (b : Bool) → ltb (p + 1) q ≡ b → eqb (getD t (q - 1) 0) s ≡ true
-      by true h = rest .behind (ltb-true (p + 1) q h)
-      by false h = let last : q - 1 ≡ p = omega (arith, ltb-false (p + 1) q h) in rw last e
-
-  passes : (left p : ℕ) → p ≤ length t → length t ≤ p + left → Passed p (pastAt s t p)
-  passes zero p h l = stays p _ (omega (arith, until-ends (isNot s) t p (omega arith))) h (λ n. absurd (omega arith))
-  passes (suc left) p h l = by (passes left (p + 1)) (ltb p (length t)) refl (eqb (getD t p 0) s) refl
-    where
-      by : (p + 1 ≤ length t → length t ≤ p + 1 + left → Passed (p + 1) (pastAt s t (p + 1)))
-          → (more : Bool) → ltb p (length t) ≡ more → (sep : Bool) → eqb (getD t p 0) s ≡ sep → Passed p (pastAt s t p)
-      by rest false m sep e =
-          let end = ltb-false p (length t) m in
-          stays p _ (omega (arith, until-ends (isNot s) t p end)) h (λ n. absurd (omega arith))
-      by rest true m false e = stays p _ (omega (arith, until-stops (isNot s) t p (ltb-true p (length t) m) (ap not e))) h (λ n. e)
-      by rest true m true e =
-          let more = ltb-true p (length t) m in
-          let next : pastAt s t p ≡ pastAt s t (p + 1) = omega (arith, until-turn (isNot s) t p more (ap not e)) in
-          goes-over p _ more e (omega arith) (subst (Passed (p + 1)) (sym next) (rest (omega arith) (omega arith)))
-
-  -- ---- from a place within a word on, over the rest of it: no other word starts there
-  record Ran (p q : ℕ) : Type 0 where
-    inside : q ≤ length t
-    counted : wordsUpTo s t q ≡ wordsUpTo s t p
-    ahead : q < length t → eqb (getD t q 0) s ≡ true
-
-  ends-here : (p q : ℕ) → q ≡ p → p ≤ length t → (p < length t → eqb (getD t p 0) s ≡ true) → Ran p q
-  ends-here p q e h f = subst (Ran p) (sym e) (record { inside = h; counted = refl; ahead = f })
-
-  runs : (left p : ℕ) → 1 ≤ p → p ≤ length t → length t ≤ p + left → eqb (getD t (p - 1) 0) s ≡ false → Ran p (endAt s t p)
-  runs zero p o h l w = ends-here p _ (omega (arith, until-ends (is s) t p (omega arith))) h (λ n. absurd (omega arith))
-  runs (suc left) p o h l w = by (runs left (p + 1)) (ltb p (length t)) refl (eqb (getD t p 0) s) refl
-    where
-      by : (1 ≤ p + 1 → p + 1 ≤ length t → length t ≤ p + 1 + left → eqb (getD t (p + 1 - 1) 0) s ≡ false → Ran (p + 1) (endAt s t (p + 1)))
-          → (more : Bool) → ltb p (length t) ≡ more → (sep : Bool) → eqb (getD t p 0) s ≡ sep → Ran p (endAt s t p)
-      by rest false m sep e =
-          let end = ltb-false p (length t) m in
-          ends-here p _ (omega (arith, until-ends (is s) t p end)) h (λ n. absurd (omega arith))
-      by rest true m true e = ends-here p _ (omega (arith, until-stops (is s) t p (ltb-true p (length t) m) e)) h (λ n. e)
-      by rest true m false e =
-          let more = ltb-true p (length t) m in
-          let next : endAt s t p ≡ endAt s t (p + 1) = omega (arith, until-turn (is s) t p more e) in
-          let here : p + 1 - 1 ≡ p = omega arith in
-          let r = rest (omega arith) (omega arith) (omega arith) (rw here e) in
-          let none = starts-behind s t p more (eqb-false (getD t p 0) s e) (λ z. absurd (omega arith)) ∙ w in
-          subst (Ran p) (sym next) (record { inside = r .inside; counted = r .counted ∙ count-none s t p none; ahead = r .ahead })
+      keeps : (k : ℕ) → k < length t → eqb (getD t k 0) s ≡ false → Within k → (startsAt s t k ≡ false) × Within (k + 1)
+      keeps k l e w =
+          let here : k + 1 - 1 ≡ k = omega arith in
+          let some = w .0 in
+          (starts-behind s t k l (eqb-false (getD t k 0) s e) (λ z. absurd (omega arith)) ∙ w .1, (omega arith, rw here e))
 
   -- ---- where the word of an index stands, and how many start before it
   record Found (i p : ℕ) : Type 0 where
@@ -89,18 +85,18 @@ module _ (s : ℕ) (t : List ℕ) where
     end : p ≡ length t
     counted : wordCount s t ≤ i
 
-  judged : (i a p : ℕ) → Passed a p → wordsUpTo s t a ≡ i → (p < length t → (p ≡ 0) ⊎ (a < p)) → Found i p ⊎ Gone i p
+  judged : (i a p : ℕ) → Walked (isNot s) a p → wordsUpTo s t a ≡ i → (p < length t → (p ≡ 0) ⊎ (a < p)) → Found i p ⊎ Gone i p
   judged i a p r c first = by (ltb p (length t)) refl
     where
       by : (b : Bool) → ltb p (length t) ≡ b → Found i p ⊎ Gone i p
       by true m =
           let more = ltb-true p (length t) m in
-          let letter = r .ahead more in
+          let letter = not-true _ (r .ahead more) in
           let other = eqb-false (getD t p 0) s letter in
           let starts : startsAt s t p ≡ true =
           ⊎-elim
           (λ z. starts-first s t p more other z)
-          (λ n. starts-behind s t p more other (λ z. absurd (omega arith)) ∙ r .behind n)
+          (λ n. starts-behind s t p more other (λ z. absurd (omega arith)) ∙ not-false _ (r .behind n))
           (first more) in
           inl (record { inside = more; letter = letter; starts = starts; counted = r .counted ∙ c })
       by false m =
@@ -116,14 +112,14 @@ module _ (s : ℕ) (t : List ℕ) where
   next-word i p f =
       let here : p + 1 - 1 ≡ p = omega arith in
       let inside = f .inside in
-      let r = runs (length t) (p + 1) (omega arith) (omega arith) (omega arith) (rw here (f .letter)) in
+      let r = runs (p + 1) (omega arith) (omega arith, rw here (f .letter)) in
       let same : endAt s t (p + 1) ≡ endAt s t p = omega (arith, until-turn (is s) t p inside (f .letter)) in
-      let ran : Ran (p + 1) (endAt s t p) = subst (Ran (p + 1)) same r in
+      let ran : Walked (is s) (p + 1) (endAt s t p) = subst (Walked (is s) (p + 1)) same r in
       let one = count-one s t p (f .starts) in
-      let q = passes (length t) (endAt s t p) (ran .inside) (omega arith) in
+      let q = passes (endAt s t p) (ran .inside) in
       judged (suc i) (endAt s t p) _ q (omega (arith, ran .counted, one, f .counted)) (λ m. inr (moved (endAt s t p) _ (omega arith) ran q m))
     where
-      moved : (e q : ℕ) → e ≤ q → Ran (p + 1) e → Passed e q → q < length t → e < q
+      moved : (e q : ℕ) → e ≤ q → Walked (is s) (p + 1) e → Walked (isNot s) e q → q < length t → e < q
       moved e q le ran past m = by (ltb e q) refl
         where
           by : (b : Bool) → ltb e q ≡ b → e < q
@@ -131,11 +127,11 @@ module _ (s : ℕ) (t : List ℕ) where
           by false h =
               let same : e ≡ q = omega (arith, ltb-false e q h) in
               let is = subst (λ (k : ℕ). eqb (getD t k 0) s ≡ true) same (ran .ahead (omega arith)) in
-              absurd (false≢true (sym (past .ahead m) ∙ is))
+              absurd (false≢true (sym (not-true _ (past .ahead m)) ∙ is))
 
   stands : (i : ℕ) → Found i (wordAt s t i) ⊎ Gone i (wordAt s t i)
   unfolding wordAt wordsUpTo
-  stands zero = judged 0 0 _ (passes (length t) 0 (omega arith) (omega arith)) refl (λ m. first-or _)
+  stands zero = judged 0 0 _ (passes 0 (omega arith)) refl (λ m. first-or _)
   stands (suc i) =
       ⊎-elim
       (λ f. next-word i (wordAt s t i) f)
