@@ -37,11 +37,13 @@ inverses-filled = filled inverse inverses tt
 abbrev pub boxAt : ℕ → ℕ
 boxAt b = spelled 8 (affineBit (getD inverses b 0))
 
+pub box-at : (b : ℕ) → b < 256 → boxAt b ≡ sBox b
+unfolding sBox
+box-at b h = ap (λ (i : ℕ). spelled 8 (affineBit i)) (inverses-filled b h)
+
 -- a table of 256 entries that passes the test is the S-box
 pub boxed : (table : List ℕ) → length table ≡ 256 → T (each (fits boxAt) 0 table) → Box table
-unfolding sBox
-boxed table e t =
-    record { rule = λ b h. filled boxAt table t b (rw e h) ∙ ap (λ (i : ℕ). spelled 8 (affineBit i)) (inverses-filled b h) }
+boxed table e t = record { rule = λ b h. filled boxAt table t b (rw e h) ∙ box-at b h }
 
 -- section 4.4: a byte times its inverse is 1, and 0 at 0
 products : List ℕ

@@ -10,8 +10,8 @@ use Rattle.octets.proofs.Parts.{part-length}
 use Rattle.octets.proofs.Numbers.{bytes-length}
 use Rattle.octets.proofs.Xor.{xor-length, xor-append}
 use Rattle.octets.proofs.Buffers.{laid-more, laid-none, laid-rest, laid-two}
-use Rattle.aes128.specs.Cipher.{encrypted}
-use Rattle.aes128.proofs.Laws.{encrypted-length}
+use Rattle.aes_byte_rounds.specs.Cipher.{encrypted}
+use Rattle.aes_byte_rounds.proofs.Laws.{encrypted-length}
 use Rattle.gcm_counter.specs.Counter.{inc32, keyStream, gctr, j0}
 use Rattle.gcm_counter.proofs.Lists.{bytes-wrapped, block-take, block-drop}
 

@@ -3,7 +3,7 @@ use Prim.Native.Nat.{ℕ, zero, suc, _+_, _/_}
 use mathlib.Core.List.{List, [], _++_}
 use lib.ListN.{length, take, drop}
 use Rattle.octets.specs.Octets.{bytes, number, xor}
-use Rattle.aes128.specs.Cipher.{encrypted}
+use Rattle.aes_byte_rounds.specs.Cipher.{encrypted}
 use Rattle.aes_schedule.specs.Expansion.{expansion}
 
 -- section 6.2, inc_32: the last 32 bits of a block, as a number, go up by one modulo 2 ^ 32

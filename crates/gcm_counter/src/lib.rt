@@ -46,7 +46,7 @@ pub fn crypt(schedule: &[u8; 176], nonce: &[u8; 12], source: &[u8], buffer: &mut
     let mut i: usize = 0;
     while i < source.len() {
         let end = block_end(i, source.len());
-        let mask = aes128::encrypt_with(&table, schedule, &block);
+        let mask = aes_byte_rounds::encrypt_with(&table, schedule, &block);
         octets::copy_masked(buffer, at + i, &source[i..end], &mask);
         block = inc32(block);
         i = end;

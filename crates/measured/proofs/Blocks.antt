@@ -7,8 +7,8 @@ use lib.ListN.{length, take, drop, length-append, take-append-drop, length-drop,
 use lib.Seq.{take-take, take-add, take-at, drop-at, drop-drop, length-take-le}
 use Rattle.octets.specs.Octets.{Bytes, number, laid}
 use Rattle.octets.proofs.Buffers.{laid-length, laid-rest}
-use Rattle.aes128.specs.Cipher.{encrypted}
-use Rattle.aes128.proofs.Laws.{encrypted-length}
+use Rattle.aes_byte_rounds.specs.Cipher.{encrypted}
+use Rattle.aes_byte_rounds.proofs.Laws.{encrypted-length}
 use Rattle.gcm_hash.specs.Hash.{State, blocks, chained, ghash, start, absorbed}
 use Rattle.octets.proofs.Bytes.{take-bytes}
 use Rattle.gcm_hash.proofs.Stream.{whole}

@@ -4,7 +4,7 @@ use mathlib.Core.List.{List, _++_}
 use lib.Dec.{leb}
 use lib.ListN.{length, take, drop}
 use Rattle.octets.specs.Outcome.{Outcome, refused, given, unless, _>>_}
-use Rattle.aes128.specs.Cipher.{encrypted}
+use Rattle.aes_byte_rounds.specs.Cipher.{encrypted}
 use Rattle.gcm.specs.Gcm.{hashKey, tagBy}
 use Rattle.gcm_counter.specs.Counter.{streamBy}
 

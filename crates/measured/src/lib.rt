@@ -30,7 +30,7 @@ pub extern "C" fn dw_measure_blocks(schedule: &[u8; 176], buffer: &mut [u8])
     while 16 <= buffer.len() - at {
         let mut block = [0u8; 16];
         octets::copy(&mut block, 0, &buffer[at..at + 16]);
-        let cipher = aes128::encrypt_with(&table, schedule, &block);
+        let cipher = aes_byte_rounds::encrypt_with(&table, schedule, &block);
         octets::copy(buffer, at, &cipher);
         at += 16;
     }

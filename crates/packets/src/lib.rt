@@ -2,7 +2,7 @@
 ghost use mathlib.Core.Path.{_≡_};
 ghost use Prim.Native.Nat.{_+_, _≤_};
 ghost use lib.ListN.{length};
-ghost use Rattle.aes128.specs.Cipher.{cipher};
+ghost use Rattle.aes_byte_rounds.specs.Cipher.{cipher};
 ghost use Rattle.packets.specs.Protection.{nonce, sampleOf};
 
 // One sender's keys, of one version.
@@ -43,5 +43,5 @@ pub fn mask_of(hp: &[u8; 16], packet: &[u8], place: usize) -> [u8; 16]
 {
     let schedule = aes_schedule::expand_key(hp);
     let sample = sample_at(packet, place);
-    aes128::encrypt(&schedule, &sample)
+    aes_byte_rounds::encrypt(&schedule, &sample)
 }

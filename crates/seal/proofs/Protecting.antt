@@ -8,7 +8,7 @@ use lib.Seq.{take-at, drop-at}
 use Rattle.octets.specs.Octets.{bytes, part, laid, begun}
 use Rattle.octets.proofs.Parts.{part-front, regroup}
 use Rattle.octets.proofs.Buffers.{begun-front, goes-on}
-use Rattle.aes128.specs.Cipher.{cipher}
+use Rattle.aes_byte_rounds.specs.Cipher.{cipher}
 use Rattle.header_writing.specs.Written.{Plain, firstByte, fields, front, plainHeader}
 use Rattle.packets.specs.Protection.{Keys, nonce, onFirst, onNumber, sampleOf, masked}
 use Rattle.packets.specs.Packet.{bodyWith, bodyOf, packetOf}

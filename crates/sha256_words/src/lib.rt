@@ -4,7 +4,7 @@ ghost use Prim.Native.Nat.{_<_};
 ghost use Rattle.sha256_words.specs.Words.{ROTR, Ch, Maj, Σ₀, Σ₁, σ₀, σ₁};
 
 // ROTR: the word with its low n bits at the top.
-fn rotate_right(x: u32, n: u32) -> u32
+pub fn rotate_right(x: u32, n: u32) -> u32
     requires { ⌜ (0 < n) × (n < 32) ⌝ }
     ensures { λ r. ⌜ r ≡ ROTR n x ⌝ }
 {

@@ -11,7 +11,7 @@ fn encrypted(line: &[u8]) -> [u8; 16] {
     let mut block = [0u8; 16];
     fields::bytes(line, 2, &mut block);
     let schedule = aes_schedule::expand_key(&key);
-    aes128::encrypt(&schedule, &block)
+    aes_byte_rounds::encrypt(&schedule, &block)
 }
 
 // aes KEY BLOCK

@@ -7,7 +7,7 @@ use borrow.Author.Needs.{needs}
 use lib.ListN.{length, take, drop}
 use Rattle.octets.specs.Octets.{xor, laid}
 use Rattle.octets.proofs.Parts.{part-length}
-use Rattle.aes128.proofs.Laws.{encrypted-length}
+use Rattle.aes_byte_rounds.proofs.Laws.{encrypted-length}
 use Rattle.gcm_counter.proofs.Counting.{crypt-turn, crypt-end}
 use Rattle.gcm_counter.specs.Counter.{inc32, gctr, streamBy}
 use Rattle.gcm_counter.proofs.crypt.Statement.{statement}

@@ -1,7 +1,7 @@
 -- The cipher of the sample under the expanded key.
 use mathlib.Core.Path.{ap₂, _∙_}
 use borrow.Author.Needs.{needs}
-use Rattle.aes128.specs.Cipher.{encrypted}
+use Rattle.aes_byte_rounds.specs.Cipher.{encrypted}
 use Rattle.packets.proofs.mask_of.Statement.{statement}
 use Rattle.packets.proofs.mask_of.Tie as tie
 

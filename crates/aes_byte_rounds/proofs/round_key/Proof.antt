@@ -5,8 +5,8 @@ use borrow.Author.Needs.{needs}
 use native.Mathlib.Omega.{arith}
 use Rattle.octets.specs.Octets.{part}
 use Rattle.aes_state.specs.State.{input}
-use Rattle.aes128.proofs.round_key.Statement.{statement}
-use Rattle.aes128.proofs.round_key.Tie as tie
+use Rattle.aes_byte_rounds.proofs.round_key.Statement.{statement}
+use Rattle.aes_byte_rounds.proofs.round_key.Tie as tie
 
 returns : tie.Need-returns
 returns c =

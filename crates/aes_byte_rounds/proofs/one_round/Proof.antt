@@ -5,8 +5,8 @@ use borrow.Author.Needs.{needs}
 use Rattle.aes_state.specs.State.{State, addRoundKey}
 use Rattle.aes_shifting.specs.Shifting.{shiftRows}
 use Rattle.aes_mixing.specs.Mixing.{mixColumns}
-use Rattle.aes128.proofs.one_round.Statement.{statement}
-use Rattle.aes128.proofs.one_round.Tie as tie
+use Rattle.aes_byte_rounds.proofs.one_round.Statement.{statement}
+use Rattle.aes_byte_rounds.proofs.one_round.Tie as tie
 
 returns : tie.Need-returns
 returns c =
