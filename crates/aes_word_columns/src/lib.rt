@@ -32,5 +32,6 @@ pub fn plain(table: &[u8; 256], a: u32, b: u32, c: u32, d: u32, k: u32) -> u32
         ((c >> 8) % 256) as u8,
         (d % 256) as u8,
     ];
-    octets::word(&sub_word(table, shifted), 0) ^ k
+    let column = octets::word(&sub_word(table, shifted), 0);
+    column ^ k
 }

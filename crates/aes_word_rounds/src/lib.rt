@@ -17,6 +17,9 @@ ghost use Rattle.aes_byte_rounds.specs.Cipher.{roundKey, encrypted};
 ghost use Rattle.aes_word_table.specs.Table.{Mixing};
 ghost use Rattle.aes_word_state.specs.Columns.{stateOf};
 
+// Section 5: Nr, the number of rounds with a key of 128 bits.
+const ROUNDS: usize = 10;
+
 // Section 5.1: the round key of a round.
 fn round_key(w: &[u8], round: usize) -> Columns
     requires { ⌜ (round ≤ 10) × (length (now w) ≡ 176) ⌝ }
@@ -65,7 +68,7 @@ fn finish(table: &[u8; 256], w: &[u8], s: Columns) -> [u8; 16]
     requires { ⌜ Box (now table) × (length (now w) ≡ 176) ⌝ }
     ensures { λ r. ⌜ r ≡ outputOf (addRoundKey (shiftRows (subBytes (stateOf s))) (roundKey (now (w .entry)) 10)) ⌝ }
 {
-    output(last_round(table, s, round_key(w, 10)))
+    output(last_round(table, s, round_key(w, ROUNDS)))
 }
 
 // Section 5.1: Cipher, with both tables lent.
@@ -81,7 +84,7 @@ pub fn encrypt_with(
     let w = &schedule[..];
     let mut s = begin(w, block);
     let mut round: usize = 1;
-    while round < 10 {
+    while round < ROUNDS {
         s = one_round(mixing, s, round_key(w, round));
         round += 1;
     }
@@ -112,7 +115,7 @@ pub fn encrypt_two(
     let mut s = begin(w, one);
     let mut t = begin(w, two);
     let mut round: usize = 1;
-    while round < 10 {
+    while round < ROUNDS {
         let key = round_key(w, round);
         s = one_round(mixing, s, key);
         t = one_round(mixing, t, key);

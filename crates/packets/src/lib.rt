@@ -43,5 +43,5 @@ pub fn mask_of(hp: &[u8; 16], packet: &[u8], place: usize) -> [u8; 16]
 {
     let schedule = aes_schedule::expand_key(hp);
     let sample = sample_at(packet, place);
-    aes_byte_rounds::encrypt(&schedule, &sample)
+    aes_word_rounds::encrypt(&schedule, &sample)
 }
