@@ -4,8 +4,9 @@ use mathlib.Core.Path.{_≡_, refl, sym, ap, ap₂, _∙_}
 use mathlib.Core.List.{List, _∷_, _++_, append-assoc}
 use native.Mathlib.Omega.{arith}
 use lib.ListN.{length, take, drop, length-append, take-append-drop, length-drop, replicate}
-use lib.Seq.{take-take, take-add, take-at, drop-at, drop-drop, length-take-le}
+use lib.Seq.{take-take, take-at, drop-at, drop-drop, length-take-le}
 use Rattle.octets.specs.Octets.{Bytes, number, laid}
+use Rattle.octets.proofs.Parts.{drop-taken}
 use Rattle.octets.proofs.Buffers.{laid-length, laid-rest}
 use Rattle.aes_byte_rounds.specs.Cipher.{encrypted}
 use Rattle.aes_byte_rounds.proofs.Laws.{encrypted-length}
@@ -15,16 +16,12 @@ use Rattle.gcm_hash.proofs.Stream.{whole}
 use Rattle.measured.specs.Measured.{enciphered}
 
 -- ---- hashed
-drop-take : (n m : ℕ) (s : List ℕ) → n + m ≤ length s → drop n (take (n + m) s) ≡ take m (drop n s)
-drop-take n m s l =
-    ap (drop n) (take-add n m s) ∙ drop-at (take n s) (take m (drop n s)) n (length-take-le n s (omega arith))
-
 front-blocks : (n : ℕ) (s : List ℕ) → n * 16 ≤ length s → blocks n (take (n * 16) s) ≡ blocks n s
 unfolding blocks
 front-blocks zero s l = refl
 front-blocks (suc n) s l =
     let size : suc n * 16 ≡ 16 + n * 16 = omega arith in
-    let rest : drop 16 (take (suc n * 16) s) ≡ take (n * 16) (drop 16 s) = ap (λ (m : ℕ). drop 16 (take m s)) size ∙ drop-take 16 (n * 16) s (omega arith) in
+    let rest : drop 16 (take (suc n * 16) s) ≡ take (n * 16) (drop 16 s) = ap (λ (m : ℕ). drop 16 (take m s)) size ∙ drop-taken s 16 (n * 16) in
     ap₂ (λ (b : List ℕ) (r : List ℕ). number b ∷ blocks n r) (take-take 16 (suc n * 16) s (omega arith)) rest
     ∙ ap (λ (r : List ℕ). number (take 16 s) ∷ r) (front-blocks n (drop 16 s) (omega (arith, length-drop 16 s)))
 

@@ -13,6 +13,12 @@ unfoldable pub enciphered : List ℕ → ℕ → List ℕ → List ℕ
 enciphered w zero s = s
 enciphered w (suc n) s = encrypted w (take 16 s) ++ enciphered w n (drop 16 s)
 
+-- a text in counter mode, where it goes into the room
+unfoldable pub streaming : List ℕ → List ℕ → List ℕ → ℕ → Outcome (List ℕ)
+streaming w nonce text room = do
+  unless 1 (leb (length text) room)
+  given (streamBy w nonce text)
+
 -- GCM's cipher and tag of a text, where neither it nor the associated data is over 65,536 bytes and both go into the room
 unfoldable pub sealing : List ℕ → List ℕ → List ℕ → List ℕ → ℕ → Outcome (List ℕ)
 sealing w nonce associated text room = do

@@ -11,15 +11,15 @@ use Rattle.measured.proofs.dw_measure_blocks.Statement.{statement}
 use Rattle.measured.proofs.dw_measure_blocks.Tie as tie
 
 abbrev Inv-loop : tie.InvT-loop
-Inv-loop schedule buffer₀ table at₀ buffer at =
+Inv-loop words schedule buffer₀ mixing sbox at₀ buffer at =
     (at ≤ length buffer) × (length buffer ≡ length buffer₀) × (onward schedule buffer at ≡ enciphered schedule (length buffer₀ / 16) buffer₀)
 
 abbrev μ-loop : tie.MeasureT-loop
-μ-loop schedule buffer₀ table at₀ buffer at = length buffer - at
+μ-loop words schedule buffer₀ mixing sbox at₀ buffer at = length buffer - at
 
 loop-holds : tie.Need-loop-holds Inv-loop μ-loop
 loop-holds c =
-    let a = c .before .before .args in
+    let a = c .before .before .before .args in
     (search needs, refl, blocks-start (a .schedule .now) (a .buffer .now))
 
 copy-requires : tie.Need-copy-requires Inv-loop μ-loop
@@ -29,12 +29,13 @@ copy-requires c κs =
 
 loop-again : tie.Need-loop-again Inv-loop μ-loop
 loop-again c =
-    let read = c .before .before .before .before .before .before .before .before .before in
+    let cipher = c .before .before .before .before .before in
+    let read = cipher .before .before .before .before .before in
     let l = read .before .before .before .before .before .loop in
-    let a = read .before .before .before .before .before .before .before .before .args in
+    let a = read .before .before .before .before .before .before .before .before .before .args in
     let w = a .schedule .now in
     let block = block-read (l .buffer) _ (l .at) (omega arith) (read .copy .ensures) in
-    let written = c .before .before .copy2 .ensures ∙ ap (laid (l .buffer) (l .at)) (c .before .before .before .before .before .encrypt-with .ensures) in
+    let written = c .before .before .copy2 .ensures ∙ ap (laid (l .buffer) (l .at)) (cipher .encrypt-by .ensures) in
     (search needs, search needs, blocks-turn w (l .buffer) _ _ (l .at) (omega arith) block written ∙ l .inv .2)
 
 same-length : tie.Need-same-length Inv-loop μ-loop
@@ -51,6 +52,7 @@ dw-measure-blocks-spec =
     (tie.spec
     Inv-loop
     μ-loop
+    (λ c κs. search needs)
     (λ c κs. search needs)
     loop-holds
     (λ c. search needs)
