@@ -1,5 +1,5 @@
 /* Times our library beside OpenSSL's portable and hardware paths, and prints the tables of docs/BENCH.md.
-   bench [ROUNDS]: every piece of work by every side in turn, ROUNDS times (9 where none is given), and the median of the rounds. */
+   bench [ROUNDS]: every piece of work by every side in turn, ROUNDS times (45 where none is given), and the median of the rounds. */
 #define _POSIX_C_SOURCE 200809L
 #include "worker.h"
 
@@ -8,8 +8,8 @@
 #include <stdlib.h>
 #include <string.h>
 
-enum { OURS, BY_BITS, PORTABLE, HARDWARE, SIDES };
-#define MOST_ROUNDS 99
+enum { OURS, PLAIN, PORTABLE, HARDWARE, SIDES };
+#define MOST_ROUNDS 999
 
 static const size_t sizes[] = {64, 256, 512, 1200, 1500};
 #define SIZES (sizeof sizes / sizeof *sizes)
@@ -25,7 +25,7 @@ struct task {
 static struct worker workers[SIDES];
 static struct task tasks[64];
 static size_t count;
-static int rounds = 9;
+static int rounds = 45;
 static uint8_t packets[SIZES][MOST_BYTES];
 
 static void add(enum kind kind, size_t size) { tasks[count++] = (struct task){.kind = kind, .size = size}; }
@@ -43,7 +43,7 @@ static const uint8_t *packet_of(size_t size) {
     return packets[0];
 }
 
-static int does(int side, enum kind kind) { return side != BY_BITS || kind == GHASH; }
+static int does(int side, enum kind kind) { return side != PLAIN || kind == BLOCKS || kind == GHASH; }
 
 /* Every side gives the same bytes, or nothing is timed. */
 static void compare(const struct task *t) {
@@ -81,35 +81,42 @@ static void measure(void) {
 
 static double rate(const struct task *t, int side) { return 1000 * (double)t->size / t->median[side]; } /* MB/s */
 
-static double share(const struct task *t, int side) { return t->median[side] / t->median[OURS]; }
+/* How often one side does the work while another does it once. */
+static double share(const struct task *t, int side, int other) { return t->median[other] / t->median[side]; }
 
-static void inner_row(const char *words, enum kind kind, size_t size) {
+static void inner_row(const char *words, enum kind kind, size_t size, int side) {
     const struct task *t = find(kind, size);
-    printf("| %s | %.2f | %.0f | %.0f | %.0f | %.2f | %.3f |\n", words, t->median[OURS] / 1000, rate(t, OURS), rate(t, PORTABLE), rate(t, HARDWARE),
-           share(t, PORTABLE), share(t, HARDWARE));
+    printf("| %s | %.2f | %.0f | %.0f | %.0f | %.2f | %.3f |\n", words, t->median[side] / 1000, rate(t, side), rate(t, PORTABLE), rate(t, HARDWARE),
+           share(t, side, PORTABLE), share(t, side, HARDWARE));
+}
+
+static void quick_row(const char *words, enum kind kind, size_t size) {
+    const struct task *t = find(kind, size);
+    printf("| %s | %.2f | %.2f | %.1f |\n", words, t->median[OURS] / 1000, t->median[PLAIN] / 1000, share(t, OURS, PLAIN));
 }
 
 static void inner_parts(void) {
     printf("### Inner parts\n\n");
     printf("| work | ours, µs | ours, MB/s | portable, MB/s | hardware, MB/s | ours to portable | ours to hardware |\n|---|---|---|---|---|---|---|\n");
-    inner_row("AES-128, 1,200 bytes as blocks, key expanded once", BLOCKS, 1200);
-    inner_row("GHASH, 1,200 bytes, table made afresh", GHASH, 1200);
-    inner_row("GHASH, 64 bytes, table made afresh", GHASH, 64);
-    inner_row("GCM, 1,200 bytes, key expanded once", GCM_KEPT, 1200);
-    inner_row("GCM, 1,200 bytes, key expanded each time", GCM_FRESH, 1200);
-    printf("\n| GHASH | by the table, µs | bit by bit, µs | table to bit by bit |\n|---|---|---|---|\n");
-    for (int i = 0; i < 2; i++) {
-        const struct task *t = find(GHASH, i ? 64 : 1200);
-        printf("| %s bytes | %.2f | %.2f | %.1f |\n", i ? "64" : "1,200", t->median[OURS] / 1000, t->median[BY_BITS] / 1000, share(t, BY_BITS));
-    }
+    inner_row("AES-128 on words, 1,200 bytes in counter mode, two blocks at a time", COUNTER, 1200, OURS);
+    inner_row("AES-128 on words, 1,200 bytes as blocks, one at a time", BLOCKS, 1200, OURS);
+    inner_row("AES-128 on bytes, 1,200 bytes as blocks", BLOCKS, 1200, PLAIN);
+    inner_row("GHASH, 1,200 bytes, table made afresh", GHASH, 1200, OURS);
+    inner_row("GHASH, 64 bytes, table made afresh", GHASH, 64, OURS);
+    inner_row("GCM, 1,200 bytes, key expanded once", GCM_KEPT, 1200, OURS);
+    inner_row("GCM, 1,200 bytes, key expanded each time", GCM_FRESH, 1200, OURS);
+    printf("\n| the quick way and the plain one | quick, µs | plain, µs | quick to plain |\n|---|---|---|---|\n");
+    quick_row("AES-128 of 1,200 bytes: on words; on bytes", BLOCKS, 1200);
+    quick_row("GHASH of 1,200 bytes: by the table; bit by bit", GHASH, 1200);
+    quick_row("GHASH of 64 bytes: by the table; bit by bit", GHASH, 64);
 }
 
 static void packet_row(const char *words, enum kind kind) {
     const struct task *t = find(kind, 1200);
     printf("| %s", words);
     for (int side = 0; side < SIDES; side++)
-        if (side != BY_BITS) printf(" | %.0f; %.0f", 1e9 / t->median[side], rate(t, side));
-    printf(" | %.2f | %.3f |\n", share(t, PORTABLE), share(t, HARDWARE));
+        if (side != PLAIN) printf(" | %.0f; %.0f", 1e9 / t->median[side], rate(t, side));
+    printf(" | %.2f | %.3f |\n", share(t, OURS, PORTABLE), share(t, OURS, HARDWARE));
 }
 
 static void packets_of_1200(void) {
@@ -143,7 +150,7 @@ static void growth(void) {
     for (int k = 0; k < 4; k++) {
         const struct task *least = find(kinds[k], sizes[0]), *most = find(kinds[k], sizes[SIZES - 1]);
         for (int side = 0; side < SIDES; side++)
-            if (side != BY_BITS) printf("%s%.2f", side == OURS ? " | " : "; ", (most->median[side] - least->median[side]) / (double)(most->size - least->size));
+            if (side != PLAIN) printf("%s%.2f", side == OURS ? " | " : "; ", (most->median[side] - least->median[side]) / (double)(most->size - least->size));
     }
     printf(" |\n");
 }
@@ -156,7 +163,7 @@ static void spread(void) {
         for (int side = 0; side < SIDES; side++)
             if (does(side, tasks[i].kind)) all[n++] = (tasks[i].rounds[side][rounds * 3 / 4] - tasks[i].rounds[side][rounds / 4]) / tasks[i].median[side];
     qsort(all, n, sizeof(double), ascending);
-    printf("\nThe median of %d rounds of at least 50 ms. The middle half of the rounds lies within %.1f %% of its median in half of the %zu measurements,\n"
+    printf("\nThe median of %d rounds of at least 10 ms. The middle half of the rounds lies within %.1f %% of its median in half of the %zu measurements,\n"
            "and within %.1f %% in all.\n",
            rounds, 100 * all[n / 2], n, 100 * all[n - 1]);
     if (portable < 1.2 * hardware) printf("OpenSSL's two paths are equally fast here: this processor has no hardware path, or the portable one was not taken.\n");
@@ -166,13 +173,13 @@ int main(int argc, char **argv) {
     make_input();
     if (argc == 3 && strcmp(argv[1], "--worker") == 0) return be_worker(argv[2]);
     if (argc == 2) rounds = atoi(argv[1]);
-    if (argc > 2 || rounds < 1 || rounds > MOST_ROUNDS) give_up("usage: bench [ROUNDS], 1 to 99");
+    if (argc > 2 || rounds < 1 || rounds > MOST_ROUNDS) give_up("usage: bench [ROUNDS], 1 to 999");
     signal(SIGPIPE, SIG_IGN); /* a worker that has ended is told in words */
     workers[OURS] = start_worker(argv[0], "ours", 0);
-    workers[BY_BITS] = start_worker(argv[0], "by-bits", 0);
+    workers[PLAIN] = start_worker(argv[0], "plain", 0);
     workers[PORTABLE] = start_worker(argv[0], "openssl", 1);
     workers[HARDWARE] = start_worker(argv[0], "openssl", 0);
-    add(BLOCKS, 1200), add(GHASH, 1200), add(GHASH, 64), add(GCM_KEPT, 1200), add(GCM_FRESH, 1200), add(KEYS, 0);
+    add(BLOCKS, 1200), add(COUNTER, 1200), add(GHASH, 1200), add(GHASH, 64), add(GCM_KEPT, 1200), add(GCM_FRESH, 1200), add(KEYS, 0);
     for (size_t i = 0; i < SIZES; i++) {
         answer_of(workers[OURS], SEAL_KEPT, sizes[i], packets[i], packets[i]);
         for (enum kind k = SEAL_KEPT; k <= OPEN_FRESH; k++) add(k, sizes[i]);

@@ -15,7 +15,7 @@ static struct {
     const uint8_t *packet;
     uint8_t blocks[MOST_BYTES];
     uint8_t keys[44]; /* key, iv, hp */
-    EVP_CIPHER_CTX *ecb, *gcm, *ungcm, *hp;
+    EVP_CIPHER_CTX *ecb, *ctr, *gcm, *ungcm, *hp;
     EVP_KDF_CTX *hkdf;
     GCM128_CONTEXT *hash;
 } at;
@@ -122,6 +122,16 @@ static size_t open_packet(uint8_t *answer) {
 
 /* ---- the inner parts */
 
+/* GCM's own first counter block for a text: the nonce and the number 2. */
+static size_t counter(uint8_t *answer) {
+    int n;
+    uint8_t first[16] = {[15] = 2};
+    memcpy(first, input.nonce, sizeof input.nonce);
+    must(EVP_EncryptInit_ex(at.ctr, NULL, NULL, NULL, first));
+    must(EVP_EncryptUpdate(at.ctr, answer, &n, input.bytes, (int)at.size));
+    return at.size;
+}
+
 static size_t gcm(const uint8_t *key, uint8_t *answer) {
     int n;
     must(EVP_EncryptInit_ex(at.gcm, NULL, NULL, key, input.nonce));
@@ -167,7 +177,9 @@ static int prepare(enum kind kind, size_t size, const uint8_t *packet) {
         at.hkdf = EVP_KDF_CTX_new(kdf);
         EVP_KDF_free(kdf);
         at.hash = CRYPTO_gcm128_new((void *)input.key, no_cipher);
+        at.ctr = context("AES-128-CTR", 1);
         must(EVP_EncryptInit_ex(at.ecb, NULL, NULL, input.key, NULL));
+        must(EVP_EncryptInit_ex(at.ctr, NULL, NULL, input.key, NULL));
     }
     at.kind = kind;
     at.size = size;
@@ -187,6 +199,8 @@ static size_t run(uint8_t *answer) {
         must(EVP_EncryptUpdate(at.ecb, at.blocks, &n, at.blocks, (int)at.size));
         memcpy(answer, at.blocks, at.size);
         return at.size;
+    case COUNTER:
+        return counter(answer);
     case GHASH:
         return ghash(answer);
     case GCM_KEPT:

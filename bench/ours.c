@@ -52,12 +52,25 @@ static size_t gcm(uint8_t *answer) {
     return at.size + TAG_BYTES;
 }
 
+/* AES of every block, on words or, where that is 0, on bytes. */
+static size_t blocks(uint32_t words, uint8_t *answer) {
+    dw_measure_blocks(words, at.schedule, at.blocks, at.size);
+    memcpy(answer, at.blocks, at.size);
+    return at.size;
+}
+
+static size_t counter(uint8_t *answer) {
+    if (dw_measure_counter(at.schedule, input.nonce, input.bytes, at.size, answer, MOST_BYTES) != 1)
+        give_up("our counter mode was refused");
+    return at.size;
+}
+
 static size_t run(uint8_t *answer) {
     switch (at.kind) {
     case BLOCKS:
-        dw_measure_blocks(at.schedule, at.blocks, at.size);
-        memcpy(answer, at.blocks, at.size);
-        return at.size;
+        return blocks(1, answer);
+    case COUNTER:
+        return counter(answer);
     case GHASH:
         dw_measure_ghash(input.key, at.blocks, at.size, answer);
         return 16;
@@ -86,15 +99,16 @@ static size_t run(uint8_t *answer) {
 
 const struct side ours = {"ours", prepare, run};
 
-/* GHASH bit by bit, as SP 800-38D section 6.3 has it, from the same crate. */
-static int prepare_by_bits(enum kind kind, size_t size, const uint8_t *packet) {
+/* The plain way, as the papers have it, from the same crate: AES on bytes (FIPS 197), and GHASH bit by bit (SP 800-38D section 6.3). */
+static int prepare_plain(enum kind kind, size_t size, const uint8_t *packet) {
     prepare(kind, size, packet);
-    return kind == GHASH;
+    return kind == BLOCKS || kind == GHASH;
 }
 
-static size_t run_by_bits(uint8_t *answer) {
+static size_t run_plain(uint8_t *answer) {
+    if (at.kind == BLOCKS) return blocks(0, answer);
     dw_measure_ghash_by_bits(input.key, at.blocks, at.size, answer);
     return 16;
 }
 
-const struct side by_bits = {"by-bits", prepare_by_bits, run_by_bits};
+const struct side plain = {"plain", prepare_plain, run_plain};

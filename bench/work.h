@@ -7,6 +7,7 @@
 
 enum kind {
     BLOCKS,     /* AES-128 of every block of `size` bytes, the key expanded once */
+    COUNTER,    /* AES-128 in counter mode over `size` bytes, the key expanded once */
     GHASH,      /* GHASH over `size` bytes, with all that it makes of the hash key made afresh */
     GCM_KEPT,   /* GCM of `size` bytes, the key expanded once */
     GCM_FRESH,  /* the same, the key expanded each time */
@@ -45,7 +46,7 @@ struct side {
     int (*prepare)(enum kind kind, size_t size, const uint8_t *packet);
     size_t (*run)(uint8_t *answer);
 };
-extern const struct side ours, by_bits, openssl;
+extern const struct side ours, plain, openssl;
 
 /* Where something that cannot fail has failed. */
 void give_up(const char *what);

@@ -6,7 +6,7 @@
 #include <time.h>
 #include <unistd.h>
 
-#define ROUND 50e6 /* nanoseconds */
+#define ROUND 10e6 /* nanoseconds */
 
 struct request {
     enum kind kind;
@@ -70,7 +70,7 @@ static void serve(const struct side *side, const struct request *asked, struct r
 }
 
 int be_worker(const char *name) {
-    static const struct side *const sides[] = {&ours, &by_bits, &openssl};
+    static const struct side *const sides[] = {&ours, &plain, &openssl};
     static struct request asked;
     static struct reply told;
     for (size_t i = 0; i < sizeof sides / sizeof *sides; i++) {

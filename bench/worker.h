@@ -18,7 +18,7 @@ int be_worker(const char *side);
 /* The bytes that a side gives; the answer is its length, 0 where the side does not do that work. */
 size_t answer_of(struct worker w, enum kind kind, size_t size, const uint8_t *packet, uint8_t *answer);
 
-/* Nanoseconds that one piece of work takes, over `times` of them; 0 times are raised until they take 50 milliseconds. */
+/* Nanoseconds that one piece of work takes, over `times` of them; 0 times are raised until they take 10 milliseconds. */
 double time_of(struct worker w, enum kind kind, size_t size, const uint8_t *packet, unsigned long *times);
 
 #endif

@@ -1,20 +1,15 @@
 -- The table by one test over its entries; and an entry by its bytes.
-use Prim.Native.Nat.{ℕ, zero, suc, _*_, _/_, _^_, _<_}
+use Prim.Native.Nat.{ℕ, zero, suc, _^_, _<_}
 use mathlib.Core.Path.{_≡_, ap, _∙_}
 use mathlib.Core.List.{List}
-use native.Mathlib.Nat.{mod-lt}
-use native.Mathlib.Omega.{arith}
-use lib.Bits.{xor-lt}
 use lib.Dec.{T, lit<}
 use lib.ListN.{length}
 use Rattle.octets.specs.Octets.{Bytes, bytes, number}
 use Rattle.octets.proofs.Numbers.{number-lt, bytes-back}
 use Rattle.octets.proofs.Rule.{each, fits, filled}
-use Rattle.aes_s_box.specs.Field.{xTimes, _•_}
 use Rattle.aes_s_box.specs.Box.{sBox}
 use Rattle.aes_s_box.proofs.SBox.{boxAt, box-at}
-use Rattle.aes_s_box.proofs.Bytes.{sBox-lt}
-use Rattle.aes_mixing.proofs.Factors.{two, three}
+use Rattle.aes_s_box.proofs.Bytes.{sBox-lt, times-lt}
 use Rattle.aes_word_table.specs.Table.{spread, entry, Mixing}
 
 -- the entry at b, by the table of the inverses
@@ -27,15 +22,11 @@ mixing table e t =
     record { rule = λ b h. filled entryAt table t b (rw e h) ∙ ap (λ (s : ℕ). number (spread s)) (box-at b h) }
 
 -- ---- an entry's bytes
-x-times-lt : (b : ℕ) → b < 256 → xTimes b < 256
-unfolding xTimes
-x-times-lt b h = xor-lt 8 (b / 128 * 0x1b) _ (omega arith) (mod-lt (b * 2) (lit< tt))
-
 spread-bytes : (b : ℕ) → b < 256 → Bytes (spread b)
-spread-bytes b h zero = rw (two b) (x-times-lt b h)
+spread-bytes b h zero = times-lt _ b h
 spread-bytes b h (suc zero) = h
 spread-bytes b h (suc (suc zero)) = h
-spread-bytes b h (suc (suc (suc zero))) = rw (three b) (xor-lt 8 b _ h (x-times-lt b h))
+spread-bytes b h (suc (suc (suc zero))) = times-lt _ b h
 spread-bytes b h (suc (suc (suc (suc i)))) = lit< tt
 
 pub entry-bytes : (b : ℕ) → bytes 4 (entry b) ≡ spread (sBox b)

@@ -1,27 +1,34 @@
 // FIPS 197 and SP 800-38D: the block cipher, its schedule and its S-box, and GCM; the mask of RFC 9001 section 5.4.3.
 use crate::fields;
 use crate::print;
+use aes_engines::Both;
 ghost use Prim.Native.Nat.{_≤_};
 ghost use lib.ListN.{length};
 
-// A block encrypted under a key: KEY BLOCK.
-fn encrypted(line: &[u8]) -> [u8; 16] {
+// A block encrypted under a key, by both engines: KEY BLOCK.
+fn encrypted(line: &[u8]) -> Both {
     let mut key = [0u8; 16];
     fields::bytes(line, 1, &mut key);
     let mut block = [0u8; 16];
     fields::bytes(line, 2, &mut block);
-    let schedule = aes_schedule::expand_key(&key);
-    aes_byte_rounds::encrypt(&schedule, &block)
+    aes_engines::encrypt(&key, &block)
 }
 
-// aes KEY BLOCK
+// aes KEY BLOCK, on bytes
 pub fn aes(line: &[u8]) {
-    print::bytes(&encrypted(line));
+    let block = encrypted(line).bytes;
+    print::bytes(&block);
+}
+
+// aes-words KEY BLOCK
+pub fn aes_words(line: &[u8]) {
+    let block = encrypted(line).words;
+    print::bytes(&block);
 }
 
 // aes-mask KEY SAMPLE: the first five bytes alone
 pub fn aes_mask(line: &[u8]) {
-    let block = encrypted(line);
+    let block = encrypted(line).words;
     print::bytes(&block[0..5]);
 }
 

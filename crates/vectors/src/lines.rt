@@ -53,6 +53,8 @@ fn cipher_call(command: &[u8], line: &[u8]) {
         hash::expand_label(line);
     } else if same(command, b"aes") {
         cipher::aes(line);
+    } else if same(command, b"aes-words") {
+        cipher::aes_words(line);
     } else if same(command, b"aes-mask") {
         cipher::aes_mask(line);
     } else if same(command, b"aes-schedule") {
