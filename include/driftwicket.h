@@ -54,7 +54,7 @@ extern "C" {
 
 /* The version of this library. */
 #define DW_LIBRARY_VERSION_MAJOR 0
-#define DW_LIBRARY_VERSION_MINOR 2
+#define DW_LIBRARY_VERSION_MINOR 3
 #define DW_LIBRARY_VERSION_PATCH 0
 
 /* The versions of QUIC. */

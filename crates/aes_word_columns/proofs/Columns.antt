@@ -17,10 +17,10 @@ use Rattle.aes_s_box.specs.Box.{sBox}
 use Rattle.aes_s_box.proofs.Bytes.{sBox-lt}
 use Rattle.aes_state.specs.State.{sum, subWord}
 use Rattle.aes_state.proofs.Steps.{four, row-bytes}
-use Rattle.aes_mixing.specs.Mixing.{mixed}
+use Rattle.aes_mixing.specs.Mixing.{mixed, mixedColumn}
 use Rattle.aes_word_table.specs.Table.{spread, entry}
 use Rattle.aes_word_table.proofs.Entries.{entry-bytes, entry-lt}
-use Rattle.aes_word_columns.specs.Column.{byteIn, mixedColumn}
+use Rattle.aes_word_columns.specs.Column.{byteIn}
 
 -- ---- added
 byte-xor : (x y k : ℕ) → bitXor x y / 256 ^ k % 256 ≡ x / 256 ^ k % 256 ⊕ y / 256 ^ k % 256

@@ -5,8 +5,9 @@ ghost use mathlib.Core.Path.{_≡_};
 ghost use Rattle.octets.specs.Octets.{bytes};
 ghost use Rattle.aes_s_box.specs.Box.{Box};
 ghost use Rattle.aes_state.specs.State.{sum};
+ghost use Rattle.aes_mixing.specs.Mixing.{mixedColumn};
 ghost use Rattle.aes_word_table.specs.Table.{Mixing};
-ghost use Rattle.aes_word_columns.specs.Column.{shiftedColumn, mixedColumn};
+ghost use Rattle.aes_word_columns.specs.Column.{shiftedColumn};
 
 // A column of a round: its row 0 comes from a, its row 1 from b, and so on, as ShiftRows has them; k is the key's column.
 // One table serves four rows: what a byte of row r adds to its column is what one of row 0 adds, turned by r bytes.

@@ -19,6 +19,7 @@ pub const ENTRY: Entry = Entry {
     name: "dw_open",
     parts: &[
         ("every truncation and every bit of sealed packets", damaged),
+        ("payloads of every size", payload_sizes),
         ("outputs of no byte, one short, exact and longer", rooms),
         ("bytes behind the packet, datagrams around 1,500 bytes, of a million and more", behind),
         ("every form of token length and Length", forms),
@@ -55,6 +56,19 @@ fn damaged(tally: &mut Tally, random: &mut Random) {
         damage::each(&sealed.packet, |datagram| {
             tally.compare(&Open { datagram, ..call });
         });
+    }
+}
+
+/// Every count of whole blocks, and every rest behind them, in packets that fit whatever their IDs are.
+fn payload_sizes(tally: &mut Tally, random: &mut Random) {
+    for payload in 3..=1_400 {
+        let version = sample::known_version(random);
+        let draft = Draft::valid(random, version, 0, payload);
+        let sealed = Sealed::new(random, version, draft);
+        let expected = expected_of(random, &sealed);
+        let output = random.bytes(sealed.packet.len() - 16);
+        let call = Open { keys: &sealed.record, expected, datagram: &sealed.packet, output: &output };
+        tally.compare_yielding(&call, report(&sealed.draft));
     }
 }
 

@@ -1,7 +1,7 @@
 -- The last round, and its state as a block.
 use mathlib.Core.Path.{ap, _∙_}
 use borrow.Author.Needs.{needs}
-use Rattle.aes_state.specs.State.{State, output, subBytes, addRoundKey}
+use Rattle.aes_state.specs.State.{output, subBytes, addRoundKey}
 use Rattle.aes_shifting.specs.Shifting.{shiftRows}
 use Rattle.aes_word_state.specs.Columns.{stateOf}
 use Rattle.aes_word_rounds.proofs.finish.Statement.{statement}

@@ -1,7 +1,6 @@
 -- 16 bytes of the 176, from 16 times the round on.
-use Prim.Native.Nat.{ℕ, _+_, _-_, _*_}
+use Prim.Native.Nat.{_+_, _-_, _*_}
 use mathlib.Core.Path.{_≡_, ap, _∙_}
-use mathlib.Core.List.{List}
 use borrow.Author.Needs.{needs}
 use native.Mathlib.Omega.{arith}
 use Rattle.octets.specs.Octets.{part}
