@@ -20,15 +20,19 @@ pub fn aes(line: &[u8]) {
     print::bytes(&block);
 }
 
+// The same by the engine on words, which the library uses.
+fn on_words(line: &[u8]) -> [u8; 16] {
+    encrypted(line).words
+}
+
 // aes-words KEY BLOCK
 pub fn aes_words(line: &[u8]) {
-    let block = encrypted(line).words;
-    print::bytes(&block);
+    print::bytes(&on_words(line));
 }
 
 // aes-mask KEY SAMPLE: the first five bytes alone
 pub fn aes_mask(line: &[u8]) {
-    let block = encrypted(line).words;
+    let block = on_words(line);
     print::bytes(&block[0..5]);
 }
 
