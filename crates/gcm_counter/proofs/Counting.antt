@@ -94,7 +94,7 @@ gctr-two schedule counter t =
     ∙ ap₂ (λ (a b : List ℕ). xor a one ++ xor b two) (take-take 16 32 t (omega arith)) (drop-taken t 16 16)))
 
 -- ---- a turn of the loop, and its end
-module _ (schedule counter source d d′ : List ℕ) (at i end : ℕ) (fits : at + length source ≤ length d) (less : i < length source) (more : i < end) (inside : end ≤ length source)
+module _ (schedule counter source d d′ : List ℕ) (at i end : ℕ) (fits : at + length source ≤ length d) (more : i < end) (inside : end ≤ length source)
     (most : end ≤ i + 32) (short : end < i + 32 → end ≡ length source) where
   pub crypt-turn : d′ ≡ laid d (at + i) (xor (take (end - i) (drop i source)) (keyStream schedule 2 counter))
       → laid d′ (at + end) (gctr schedule (inc32 (inc32 counter)) (drop end source)) ≡ laid d (at + i) (gctr schedule counter (drop i source))

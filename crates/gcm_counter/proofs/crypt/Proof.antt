@@ -52,7 +52,7 @@ loop-again c =
       end .ensures .1,
       search needs,
       ap (λ (b : List ℕ). laid (masked .last .0) (a .at + end .result) (gctr schedule b (drop (end .result) text))) (block-after-next nonce (l .count) _ (search needs) (c .wrapping-add-u32 .ensures))
-          ∙ crypt-turn schedule (nonce ++ bytes 4 (l .count)) text (l .buffer) (masked .last .0) (a .at) (l .i) (end .result) (omega (arith, start .pre, l .inv .1)) (omega arith) (end .ensures .0) (end .ensures .1) (end .ensures .2)
+          ∙ crypt-turn schedule (nonce ++ bytes 4 (l .count)) text (l .buffer) (masked .last .0) (a .at) (l .i) (end .result) (omega (arith, start .pre, l .inv .1)) (end .ensures .0) (end .ensures .1) (end .ensures .2)
           (end .ensures .3) (masked .ensures ∙ ap (λ (m : List ℕ). laid (l .buffer) (a .at + l .i) (xor piece m)) (masks .masks .ensures))
           ∙ l .inv .2,
     )
