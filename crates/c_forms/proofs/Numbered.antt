@@ -26,6 +26,16 @@ pub tested : {A : Type 0} (n : ℕ) (b : Bool) {o : Outcome A} → 0 < n → Num
 tested n true some rest = rest
 tested n false some rest = record { number = λ m e. let same : m ≡ n = cc in rw same some }
 
+-- a test alone
+pub test : (n : ℕ) (b : Bool) → 0 < n → Numbered (unless n b)
+test n true positive = some
+test n false positive = record { number = λ m e. let same : m ≡ n = cc in rw same positive }
+
+-- behind a judgement
+pub judged : {A B : Type 0} (o : Outcome A) {rest : Outcome B} → Numbered o → Numbered rest → Numbered (o >> rest)
+judged (refused n) numbered rest = record { number = λ m e. let same : m ≡ n = cc in numbered .number m (ap refused same) }
+judged (given a) numbered rest = rest
+
 -- behind a step, whatever it gives
 pub stepped : {A B : Type 0} (o : Outcome A) {f : A → Outcome B} → Numbered o → ((a : A) → Numbered (f a)) → Numbered (o >>= f)
 stepped (refused n) numbered rest = record { number = λ m e. let same : m ≡ n = cc in numbered .number m (ap refused same) }

@@ -1,8 +1,8 @@
 -- What C is promised of a header: RFC 9000 section 17.2.
 use Prim.Native.Nat.{ℕ}
 use mathlib.Core.List.{List, [], _∷_}
-use Rattle.header_initial.specs.InitialHeader.{Header}
-use Rattle.header_initial.specs.Answers.{anyHeader}
+use Rattle.header_forms.specs.Rules.{inForce}
+use Rattle.header_initial.specs.InitialHeader.{Header, anyHeader}
 use Rattle.c_forms.specs.Promises.{Answers}
 
 -- version; place and length of destination, source and token; Length; place of the number
@@ -17,4 +17,4 @@ headerNumbers h =
     ∷ []
 
 abbrev pub DwReadHeader : (datagram before : List ℕ) (r : ℕ) (report : List ℕ) → Type 0
-DwReadHeader datagram = Answers (anyHeader datagram) headerNumbers
+DwReadHeader datagram = Answers (anyHeader inForce datagram) headerNumbers

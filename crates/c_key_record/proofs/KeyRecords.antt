@@ -8,7 +8,7 @@ use lib.Seq.{take-at, drop-at}
 use Rattle.octets.specs.Octets.{bytes, number, part, laid}
 use Rattle.octets.proofs.Numbers.{bytes-length, number-back}
 use Rattle.octets.proofs.Buffers.{goes-on}
-use Rattle.packets.specs.Protection.{Keys}
+use Rattle.protection.specs.Protection.{Keys}
 use Rattle.c_key_record.specs.Layout.{keyBytes, keysIn}
 
 -- the parts have their sizes

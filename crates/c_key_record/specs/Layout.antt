@@ -2,7 +2,7 @@
 use Prim.Native.Nat.{ℕ}
 use mathlib.Core.List.{List, _++_}
 use Rattle.octets.specs.Octets.{bytes, number, part}
-use Rattle.packets.specs.Protection.{Keys}
+use Rattle.protection.specs.Protection.{Keys}
 
 unfoldable pub keyBytes : Keys → List ℕ
 keyBytes k = bytes 4 (k .version) ++ k .key ++ k .iv ++ k .hp

@@ -1,7 +1,7 @@
 // A key record as C holds it, in 48 bytes: the version in four, then key, iv and hp.
-use packets::Keys;
+use protection::Keys;
 ghost use mathlib.Core.Path.{_≡_};
-ghost use Rattle.packets.specs.KeyRecord.{keysOf};
+ghost use Rattle.protection.specs.KeyRecord.{keysOf};
 ghost use Rattle.c_key_record.specs.Layout.{keyBytes, keysIn};
 
 // The bytes of a record.

@@ -8,8 +8,8 @@ use lib.ListN.{length}
 use Rattle.octets.specs.Outcome.{Outcome, refused, given}
 use Rattle.versions.specs.Versions.{known}
 use Rattle.header_fields.specs.Fields.{longestId}
-use Rattle.packets.specs.Protection.{Keys}
-use Rattle.packets.specs.KeyRecord.{keysOf}
+use Rattle.protection.specs.Protection.{Keys}
+use Rattle.protection.specs.KeyRecord.{keysOf}
 use Rattle.keys.specs.InitialKeys as Section5
 use Rattle.keys.specs.InitialKeys.{initialKeys}
 use Rattle.keys.specs.Answers.{sideOf, refusalOf, keysGiven, InitialKeysMade}

@@ -3,8 +3,8 @@ use Prim.Native.Nat.{ℕ}
 use mathlib.Core.Path.{_≡_, sym, ap, subst, _∙_}
 use mathlib.Core.List.{List, [], _∷_}
 use Rattle.octets.specs.Outcome.{Outcome, refused, given}
-use Rattle.packets.specs.Protection.{Keys}
-use Rattle.packets.specs.Packet.{Opened}
+use Rattle.protection.specs.Protection.{Keys}
+use Rattle.protection.specs.Clear.{Opened}
 use Rattle.open_writing.specs.declared.Opened as Code
 use Rattle.open.specs.Opening.{Report, reportOf, reported, openingAnswer, Open}
 use Rattle.open.specs.declared.Opening.{Opening}

@@ -24,7 +24,7 @@ pub use octets::refusal;
 pub use open::Opening;
 pub use open::open;
 pub use open_writing::Opened;
-pub use packets::Keys;
+pub use protection::Keys;
 pub use retry_checking::Checking;
 pub use retry_checking::RetryFields;
 pub use retry_checking::check_retry;

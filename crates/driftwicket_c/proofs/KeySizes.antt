@@ -16,7 +16,7 @@ use Rattle.hmac.specs.Hmac.{hmac}
 use Rattle.hkdf.specs.Hkdf.{T, Ts, expand, info, expandLabel}
 use Rattle.versions.specs.Versions.{known, version}
 use Rattle.header_fields.specs.Fields.{longestId}
-use Rattle.packets.specs.Protection.{Keys}
+use Rattle.protection.specs.Protection.{Keys}
 use Rattle.keys.specs.InitialKeys.{Side, sideSecret, initialKeys}
 use Rattle.keys_expansion.specs.Expansion.{keysFrom}
 use Rattle.c_key_record.specs.Layout.{keyBytes, keysIn}

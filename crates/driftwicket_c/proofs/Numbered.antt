@@ -11,16 +11,20 @@ use Rattle.numbers_shortening.specs.Shortening.{Acknowledged, nothing, upTo, co
 use Rattle.numbers_recovery.specs.Recovery.{decoded, recovered}
 use Rattle.versions.specs.Versions.{Version, known, version}
 use Rattle.header_fields.specs.Fields.{longestId, leastLength, tagLength, behind, idAt, integerAt, fieldAt, restAt}
-use Rattle.header_long.specs.LongHeader.{limit, versionOf, judged, long}
-use Rattle.header_initial.specs.InitialHeader.{header}
+use Rattle.header_forms.specs.Rules.{Rules}
+use Rattle.header_forms.specs.Forms.{Form, longForm, reservedBits, formed}
+use Rattle.header_long.specs.LongHeader as LongHeader
+use Rattle.header_long.specs.LongHeader.{Judge, ofType, versionOf, long}
+use Rattle.header_initial.specs.InitialHeader.{header, initials, anyHeader}
 use Rattle.header_writing.specs.Written.{Plain}
-use Rattle.packets.specs.Suite.{Suite}
-use Rattle.packets.specs.Protection.{Keys, nonce, onFirst, onNumber}
-use Rattle.packets.specs.Packet.{maskOf, packetOf, sealed, unprotected, opened}
+use Rattle.protection.specs.Suite.{Suite}
+use Rattle.protection.specs.Protection.{Keys, nonce, onFirst, onNumber}
+use Rattle.protection.specs.Clear.{maskOf, Revealed, revealed, decrypted, unprotected}
+use Rattle.packets.specs.Packet.{packetOf, sealed, opened}
 use Rattle.retry_tag.specs.Tag.{retryTag, tagged}
 use Rattle.retry_writing.specs.Written.{untagged, retryWritten}
-use Rattle.retry_checking.specs.Retry.{tokenAt, retryChecked}
-use Rattle.c_forms.proofs.Numbered.{Numbered, some, tested, stepped}
+use Rattle.retry_checking.specs.Retry.{tokenAt, retries, retryHeader, retryChecked}
+use Rattle.c_forms.proofs.Numbered.{Numbered, some, test, tested, judged, stepped}
 
 -- ---- integers and packet numbers
 pub integer-numbered : (s : List ℕ) → Numbered (integer s)
@@ -58,17 +62,29 @@ recovered-numbered e t n =
     (tested 10 (ltb (decoded e t n) numbers) (lit< tt) some)))
 
 -- ---- headers
+pub formed-numbered : (rules : Rules) (form : Form) (d : List ℕ) → Numbered (formed rules form d)
+unfolding formed
+formed-numbered rules form d =
+    tested 1 (leb 1 (length d) && leb (length d) (rules .limit)) (lit< tt) (test 2 (eqb (getD d 0 0 / 64) (form .topBits)) (lit< tt))
+
+-- whoever reads, if what it makes of types has numbers for its refusals
+abbrev Judging : {A : Type 0} → Judge A → Type 0
+Judging judge = (row : Version) (type : ℕ) → Numbered (judge .kind row type)
+
+of-type-judging : (takes : ℕ → Bool) (wanted : Version → ℕ) → Judging (ofType takes wanted)
+of-type-judging takes wanted row type = test 6 (eqb type (wanted row)) (lit< tt)
+
 module _ (d : List ℕ) where
   version-numbered : Numbered (versionOf d)
   unfolding versionOf
-  version-numbered =
-      tested 1 (leb 1 (length d) && leb (length d) limit) (lit< tt) (tested 2 (leb 0xc0 (getD d 0 0)) (lit< tt) (tested 3 (leb (1 + 4) (length d)) (lit< tt) some))
+  version-numbered = tested 3 (leb (1 + 4) (length d)) (lit< tt) some
 
-  judged-numbered : (takes : ℕ → Bool) (type : Version → ℕ) → Numbered (judged takes type d)
-  unfolding judged
-  judged-numbered takes type =
+  judged-numbered : {A : Type 0} (judge : Judge A) → Judging judge → Numbered (LongHeader.judged judge d)
+  unfolding LongHeader.judged
+  judged-numbered judge judging =
       stepped (versionOf d) version-numbered
-      (λ v. tested 4 (known v && takes v) (lit< tt) (tested 6 (eqb (getD d 0 0 / 16 % 4) (type (version v))) (lit< tt) some))
+      (λ v. tested 4 (known v && judge .takes v) (lit< tt)
+      (stepped (judge .kind (version v) (getD d 0 0 / 16 % 4)) (judging (version v) (getD d 0 0 / 16 % 4)) (λ kind. some)))
 
   id-numbered : (at : ℕ) → Numbered (idAt d at)
   unfolding idAt
@@ -76,11 +92,11 @@ module _ (d : List ℕ) where
       tested 3 (leb (at + 1) (length d)) (lit< tt)
       (tested 5 (leb (getD d at 0) longestId) (lit< tt) (tested 3 (leb (at + 1 + getD d at 0) (length d)) (lit< tt) some))
 
-  long-numbered : (takes : ℕ → Bool) (type : Version → ℕ) → Numbered (long takes type d)
+  long-numbered : {A : Type 0} (judge : Judge A) → Judging judge → Numbered (long judge d)
   unfolding long
-  long-numbered takes type =
-      stepped (judged takes type d) (judged-numbered takes type)
-      (λ v. stepped (idAt d 5) (id-numbered 5) (λ destination. stepped (idAt d (behind destination)) (id-numbered (behind destination)) (λ source. some)))
+  long-numbered judge judging =
+      stepped (LongHeader.judged judge d) (judged-numbered judge judging)
+      (λ j. stepped (idAt d 5) (id-numbered 5) (λ destination. stepped (idAt d (behind destination)) (id-numbered (behind destination)) (λ source. some)))
 
   integer-at-numbered : (at : ℕ) → Numbered (integerAt d at)
   unfolding integerAt
@@ -97,67 +113,87 @@ module _ (d : List ℕ) where
       stepped (integerAt d at) (integer-at-numbered at)
       (λ rest. tested 7 (leb leastLength (rest .len)) (lit< tt) (tested 3 (leb (rest .at + rest .len) (length d)) (lit< tt) some))
 
-  pub header-numbered : (takes : ℕ → Bool) → Numbered (header takes d)
+  header-numbered : {A : Type 0} (judge : Judge A) → Judging judge → Numbered (header judge d)
   unfolding header
-  header-numbered takes =
-      stepped (long takes (λ v. v .initialType) d) (long-numbered takes (λ v. v .initialType))
+  header-numbered judge judging =
+      stepped (long judge d) (long-numbered judge judging)
       (λ l. stepped (fieldAt d (behind (l .source))) (field-numbered (behind (l .source))) (λ token. stepped (restAt d (behind token)) (rest-numbered (behind token)) (λ rest. some)))
 
+pub any-header-numbered : (rules : Rules) (d : List ℕ) → Numbered (anyHeader rules d)
+unfolding anyHeader
+any-header-numbered rules d =
+    judged (formed rules longForm d) (formed-numbered rules longForm d)
+    (header-numbered d (initials (λ v. true)) (of-type-judging (λ v. true) (λ v. v .initialType)))
+
 -- ---- sealing and opening
-module _ (suite : Suite) (k : Keys) where
-  pub sealed-numbered : (a : Acknowledged) (p : Plain) (room : ℕ) → Numbered (sealed suite k a p room)
+module _ (suite : Suite) (rules : Rules) (k : Keys) where
+  pub sealed-numbered : (a : Acknowledged) (p : Plain) (room : ℕ) → Numbered (sealed suite rules k a p room)
   unfolding sealed
   sealed-numbered a p room =
       tested 4 (known (k .version)) (lit< tt)
       (stepped (shortened (p .packetNumber) a (p .numberLength)) (shortened-numbered (p .packetNumber) a (p .numberLength))
       (λ short. tested 5 (leb (length (p .destination)) longestId && leb (length (p .source)) longestId) (lit< tt)
       (tested 7 (leb 4 (p .numberLength + length (p .payload))) (lit< tt)
-      (tested 1 (leb (length (packetOf suite k p)) limit) (lit< tt)
-      (tested 8 (leb (length (packetOf suite k p)) room) (lit< tt) some)))))
+      (tested 1 (leb (length (packetOf suite rules k p)) (rules .limit)) (lit< tt)
+      (tested 8 (leb (length (packetOf suite rules k p)) room) (lit< tt) some)))))
 
-  unprotected-numbered : (e : ℕ) (packet : List ℕ) (at : ℕ) → Numbered (unprotected suite k e packet at)
-  unfolding unprotected
-  unprotected-numbered e packet at =
-      let mask = maskOf suite k packet at in
-      let first = onFirst mask (getD packet 0 0) in
+  revealed-numbered : (form : Form) (e : ℕ) (packet : List ℕ) (at : ℕ) → Numbered (revealed suite form (k .hp) e packet at)
+  unfolding revealed
+  revealed-numbered form e packet at =
+      let mask = maskOf suite (k .hp) packet at in
+      let first = onFirst form mask (getD packet 0 0) in
       let n = first % 4 + 1 in
-      let short = onNumber mask (part packet at n) in
-      let body = drop (at + n) packet in
-      let m = decoded e (number short) n in
-      tested 9 (eqb (first / 4 % 4) 0) (lit< tt)
-      (tested 10 (ltb m numbers) (lit< tt)
-      (tested 11 (same (drop (length body - tagLength) body) (suite .tag (k .key) (nonce (k .iv) m) (first ∷ part packet 1 (at - 1) ++ short) (take (length body - tagLength) body))) (lit< tt)
-      some))
+      tested 9 (eqb (reservedBits form first) 0) (lit< tt) (tested 10 (ltb (decoded e (number (onNumber mask (part packet at n))) n) numbers) (lit< tt) some)
 
-  pub opened-numbered : (e : ℕ) (d : List ℕ) (room : ℕ) → Numbered (opened suite k e d room)
+  decrypted-numbered : (packet : List ℕ) (at : ℕ) (r : Revealed) → Numbered (decrypted suite (k .key) (k .iv) packet at r)
+  unfolding decrypted
+  decrypted-numbered packet at r =
+      let body = drop (at + r .numberLength) packet in
+      let plain : List ℕ = r .first ∷ part packet 1 (at - 1) ++ r .short in
+      tested 11 (same (drop (length body - tagLength) body) (suite .tag (k .key) (nonce (k .iv) (r .packetNumber)) plain (take (length body - tagLength) body))) (lit< tt)
+      some
+
+  unprotected-numbered : (form : Form) (e : ℕ) (packet : List ℕ) (at : ℕ) → Numbered (unprotected suite form k e packet at)
+  unfolding unprotected
+  unprotected-numbered form e packet at =
+      stepped (revealed suite form (k .hp) e packet at) (revealed-numbered form e packet at) (λ r. decrypted-numbered packet at r)
+
+  pub opened-numbered : (e : ℕ) (d : List ℕ) (room : ℕ) → Numbered (opened suite rules k e d room)
   unfolding opened
   opened-numbered e d room =
+      let ours : Judge (Unit {0}) = initials (λ v. eqb v (k .version)) in
       tested 10 (leb e numbers) (lit< tt)
       (tested 4 (known (k .version)) (lit< tt)
-      (stepped (header (λ v. eqb v (k .version)) d) (header-numbered d (λ v. eqb v (k .version)))
+      (judged (formed rules longForm d) (formed-numbered rules longForm d)
+      (stepped (header ours d) (header-numbered d ours (of-type-judging (λ v. eqb v (k .version)) (λ v. v .initialType)))
       (λ h. tested 8 (leb (length (take (h .numberAt + h .length′) d) - tagLength) room) (lit< tt)
-      (unprotected-numbered e (take (h .numberAt + h .length′) d) (h .numberAt)))))
+      (unprotected-numbered longForm e (take (h .numberAt + h .length′) d) (h .numberAt))))))
 
 -- ---- Retry
-pub retry-written-numbered : (v : ℕ) (original destination source token : List ℕ) (low room : ℕ) → Numbered (retryWritten v original destination source token low room)
+pub retry-written-numbered : (rules : Rules) (v : ℕ) (original destination source token : List ℕ) (low room : ℕ) → Numbered (retryWritten rules v original destination source token low room)
 unfolding retryWritten
-retry-written-numbered v original destination source token low room =
+retry-written-numbered rules v original destination source token low room =
     let packet = tagged v original (untagged v destination source token low) in
     tested 4 (known v) (lit< tt)
     (tested 5 (leb (length original) longestId) (lit< tt)
     (tested 5 (leb (length destination) longestId) (lit< tt)
     (tested 5 (leb (length source) longestId) (lit< tt)
     (tested 13 (leb 1 (length token)) (lit< tt)
-    (tested 1 (leb (length packet) limit) (lit< tt) (tested 8 (leb (length packet) room) (lit< tt) some))))))
+    (tested 1 (leb (length packet) (rules .limit)) (lit< tt) (tested 8 (leb (length packet) room) (lit< tt) some))))))
 
 token-numbered : (d : List ℕ) (at : ℕ) → Numbered (tokenAt d at)
 unfolding tokenAt
 token-numbered d at = tested 3 (leb (at + tagLength) (length d)) (lit< tt) (tested 13 (leb 1 (length d - at - tagLength)) (lit< tt) some)
 
-pub retry-checked-numbered : (original d : List ℕ) → Numbered (retryChecked original d)
+retry-header-numbered : (rules : Rules) (d : List ℕ) → Numbered (retryHeader rules d)
+unfolding retryHeader
+retry-header-numbered rules d =
+    judged (formed rules longForm d) (formed-numbered rules longForm d) (long-numbered d retries (of-type-judging (λ v. true) (λ v. v .retryType)))
+
+pub retry-checked-numbered : (rules : Rules) (original d : List ℕ) → Numbered (retryChecked rules original d)
 unfolding retryChecked
-retry-checked-numbered original d =
+retry-checked-numbered rules original d =
     tested 5 (leb (length original) longestId) (lit< tt)
-    (stepped (long (λ v. true) (λ v. v .retryType) d) (long-numbered d (λ v. true) (λ v. v .retryType))
+    (stepped (retryHeader rules d) (retry-header-numbered rules d)
     (λ l. stepped (tokenAt d (behind (l .source))) (token-numbered d (behind (l .source)))
     (λ token. tested 11 (same (drop (behind token) d) (retryTag (l .version) original (take (behind token) d))) (lit< tt) some)))

@@ -7,8 +7,10 @@ use Rattle.octets.specs.Octets.{begun}
 use Rattle.numbers.specs.Numbers.{numbers}
 use Rattle.numbers_recovery.specs.Recovery.{Near}
 use Rattle.header_fields.specs.Fields.{tagLength}
-use Rattle.header_long.specs.LongHeader.{limit}
-use Rattle.header_writing.specs.Written.{Plain, plainHeader}
+use Rattle.header_forms.specs.Rules.{inForce}
+use Rattle.header_writing.specs.Written.{Plain}
+use Rattle.protection.specs.Clear.{plainHeader}
+use Rattle.packets.specs.Packet.{clearOf}
 use Rattle.c_key_record.specs.Layout.{keysIn}
 use Rattle.c_seal.specs.Promises.{DwSeal}
 use Rattle.c_open.specs.Promises.{DwOpen}
@@ -23,7 +25,7 @@ pub record Sealed (keys : List ℕ) (p : Plain) (size : ℕ) (then : List ℕ) :
 
 -- it comes in a datagram that is not too large, to a receiver that expects a number near its own and has room for the answer
 pub record Comes (p : Plain) (size : ℕ) (datagram : List ℕ) (expected : ℕ) (room : List ℕ) : Type 0 where
-  pub fits : length datagram ≤ limit
+  pub fits : length datagram ≤ inForce .limit
   pub expects : expected ≤ numbers
   pub near : Near expected (p .packetNumber) (p .numberLength)
   pub enough : size ≤ length room + tagLength
@@ -32,9 +34,9 @@ pub record Comes (p : Plain) (size : ℕ) (datagram : List ℕ) (expected : ℕ)
 -- expected next is the larger of what was expected and one above the packet's own
 pub record Reopened (v : ℕ) (p : Plain) (size expected next r : ℕ) (report room then : List ℕ) : Type 0 where
   pub answer : r ≡ 0
-  pub reported : report ≡ p .packetNumber ∷ p .numberLength ∷ length (plainHeader v p) ∷ length (p .payload) ∷ size ∷ []
+  pub reported : report ≡ p .packetNumber ∷ p .numberLength ∷ length (plainHeader (clearOf inForce v p)) ∷ length (p .payload) ∷ size ∷ []
   pub moved : next ≡ max expected (p .packetNumber + 1)
-  pub written : then ≡ begun (plainHeader v p ++ p .payload) room
+  pub written : then ≡ begun (plainHeader (clearOf inForce v p) ++ p .payload) room
 
 -- whatever stands behind the packet
 abbrev pub Reopens : Type 0

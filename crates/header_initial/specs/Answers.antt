@@ -1,11 +1,12 @@
 -- What reading the header of an Initial packet answers, as the outcome that it stands for, and what is promised.
 use Prim.Native.Nat.{ℕ}
 use mathlib.Core.Path.{_≡_}
-use mathlib.Core.Bool.{true}
 use mathlib.Core.List.{List}
 use Rattle.octets.specs.Outcome.{Outcome, refused, given}
+use Rattle.header_forms.specs.Rules.{inForce}
 use Rattle.header_fields.specs.Answers.{placeOf}
 use Rattle.header_initial.specs.InitialHeader as Section17
+use Rattle.header_initial.specs.InitialHeader.{anyHeader}
 use Rattle.header_initial.specs.declared.Header.{Header}
 use Rattle.header_initial.specs.declared.Reading.{Reading}
 use Rattle.header_initial.specs.declared.Reading.the-variants as Reading
@@ -24,9 +25,5 @@ abbrev pub readingAnswer : Reading → Outcome Section17.Header
 readingAnswer (Reading.Refused n) = refused n
 readingAnswer (Reading.Read h) = given (headerOf h)
 
--- the header of a datagram, whichever known version it is of
-abbrev pub anyHeader : List ℕ → Outcome Section17.Header
-anyHeader = Section17.header (λ v. true)
-
 pub record ReadHeader (datagram : List ℕ) (r : Reading) : Type 0 where
-  pub answer : readingAnswer r ≡ anyHeader datagram
+  pub answer : readingAnswer r ≡ anyHeader inForce datagram

@@ -3,12 +3,16 @@ use header_fields::Found;
 use header_fields::Place;
 use header_fields::field_at;
 use header_fields::rest_at;
-use header_long::Kind;
+use header_forms::Form;
+use header_forms::Formed;
+use header_forms::judge_form;
+use header_long::Judge;
 use header_long::LongReading;
-use header_long::Wanted;
+use header_long::Types;
+use header_long::Versions;
 use header_long::read_long;
 ghost use mathlib.Core.Path.{_≡_};
-ghost use Rattle.header_long.specs.Answers.{takes};
+ghost use Rattle.header_long.specs.Answers.{judgeOf};
 ghost use Rattle.header_initial.specs.InitialHeader.{header};
 ghost use Rattle.header_initial.specs.Answers.{readingAnswer, ReadHeader};
 
@@ -28,11 +32,11 @@ pub enum Reading {
     Read(Header),
 }
 
-// Section 17.2.2: the header of an Initial packet of a version that is wanted.
-pub fn read_initial(datagram: &[u8], wanted: Wanted) -> Reading
-    ensures { λ r. ⌜ readingAnswer r ≡ header (takes wanted) (now (datagram .entry)) ⌝ }
+// Section 17.2.2: the header behind a first byte that was judged, as far as the reader takes it.
+pub fn read_initial(datagram: &[u8], judge: Judge) -> Reading
+    ensures { λ r. ⌜ readingAnswer r ≡ header (judgeOf judge) (now (datagram .entry)) ⌝ }
 {
-    let long = match read_long(datagram, wanted, Kind::Initial) {
+    let long = match read_long(datagram, judge) {
         LongReading::Refused(why) => return Reading::Refused(why),
         LongReading::Read(long) => long,
     };
@@ -60,5 +64,13 @@ pub fn read_initial(datagram: &[u8], wanted: Wanted) -> Reading
 pub fn read_header(datagram: &[u8]) -> Reading
     ensures { λ r. ⌜ ReadHeader (now (datagram .entry)) r ⌝ }
 {
-    read_initial(datagram, Wanted::Known)
+    match judge_form(datagram, Form::Long) {
+        Formed::Refused(why) => return Reading::Refused(why),
+        Formed::Right => {}
+    }
+    let judge = Judge {
+        versions: Versions::Known,
+        types: Types::Initial,
+    };
+    read_initial(datagram, judge)
 }

@@ -8,7 +8,7 @@ use Rattle.header_long.specs.Answers.{longAnswer}
 use Rattle.header_long.specs.declared.LongReading.{LongReading}
 use Rattle.header_long.specs.declared.LongReading.the-variants as LongReading
 
-longBack : Outcome Section17.Long → LongReading
+longBack : Outcome (Section17.Long (Unit {0})) → LongReading
 longBack (refused n) = LongReading.Refused n
 longBack (given l) = LongReading.Read (record {
   version = l .version;
@@ -21,6 +21,6 @@ unfolding longBack
 long-back (LongReading.Refused n) = refl
 long-back (LongReading.Read l) = refl
 
--- of whichever versions and packets are wanted: one outcome is one answer
-pub read-long-once : {o : Outcome Section17.Long} {r r′ : LongReading} → longAnswer r ≡ o → longAnswer r′ ≡ o → r ≡ r′
+-- whoever reads: one outcome is one answer
+pub read-long-once : {o : Outcome (Section17.Long (Unit {0}))} {r r′ : LongReading} → longAnswer r ≡ o → longAnswer r′ ≡ o → r ≡ r′
 read-long-once a b = once longAnswer longBack long-back a b

@@ -6,10 +6,11 @@ use Rattle.octets.specs.Outcome.{Outcome, refused, given}
 use Rattle.versions.specs.Versions.{Version}
 use Rattle.header_fields.specs.Answers.{placeOf}
 use Rattle.header_long.specs.LongHeader as Section17
-use Rattle.header_long.specs.declared.Wanted.{Wanted}
-use Rattle.header_long.specs.declared.Wanted.the-variants as Wanted
-use Rattle.header_long.specs.declared.Kind.{Kind}
-use Rattle.header_long.specs.declared.Kind.the-variants as Kind
+use Rattle.header_long.specs.declared.Versions.{Versions}
+use Rattle.header_long.specs.declared.Versions.the-variants as Versions
+use Rattle.header_long.specs.declared.Types.{Types}
+use Rattle.header_long.specs.declared.Types.the-variants as Types
+use Rattle.header_long.specs.declared.Judge.{Judge}
 use Rattle.header_long.specs.declared.Version.{Version as VersionRead}
 use Rattle.header_long.specs.declared.Version.the-variants as VersionRead
 use Rattle.header_long.specs.declared.Long.{Long}
@@ -18,22 +19,29 @@ use Rattle.header_long.specs.declared.LongReading.the-variants as LongRe
 
 -- ---- what is asked for
 -- any known version, or one alone
-abbrev pub takes : Wanted → ℕ → Bool
-takes Wanted.Known = λ v. true
-takes (Wanted.Only w) = λ v. eqb v w
+abbrev pub takes : Versions → ℕ → Bool
+takes Versions.Known = λ v. true
+takes (Versions.Only w) = λ v. eqb v w
 
-abbrev pub typeOf : Kind → Version → ℕ
-typeOf Kind.Initial = λ v. v .initialType
-typeOf Kind.Retry = λ v. v .retryType
+abbrev pub typeOf : Types → Version → ℕ
+typeOf Types.Initial = λ v. v .initialType
+typeOf Types.Retry = λ v. v .retryType
+
+abbrev pub judgeOf : Judge → Section17.Judge (Unit {0})
+judgeOf j = Section17.ofType (takes (j .versions)) (typeOf (j .types))
 
 -- ---- what is answered
 abbrev pub versionAnswer : VersionRead → Outcome ℕ
 versionAnswer (VersionRead.Refused n) = refused n
 versionAnswer (VersionRead.Of v) = given v
 
-abbrev pub longOf : Long → Section17.Long
-longOf l = record { version = l .version; destination = placeOf (l .destination); source = placeOf (l .source) }
+abbrev pub judgedAnswer : VersionRead → Outcome (Section17.Judged (Unit {0}))
+judgedAnswer (VersionRead.Refused n) = refused n
+judgedAnswer (VersionRead.Of v) = given (record { version = v; kind = tt })
 
-abbrev pub longAnswer : LongReading → Outcome Section17.Long
+abbrev pub longOf : Long → Section17.Long (Unit {0})
+longOf l = record { version = l .version; kind = tt; destination = placeOf (l .destination); source = placeOf (l .source) }
+
+abbrev pub longAnswer : LongReading → Outcome (Section17.Long (Unit {0}))
 longAnswer (LongReading.Refused n) = refused n
 longAnswer (LongReading.Read l) = given (longOf l)

@@ -2,43 +2,52 @@
 use Prim.Native.Nat.{ℕ, _/_, _%_}
 use mathlib.Core.List.{List}
 use mathlib.Core.Bool.{Bool, _&&_}
-use lib.Dec.{leb, eqb}
-use lib.ListN.{length, getD}
+use lib.Dec.{eqb}
+use lib.ListN.{getD}
 use Rattle.octets.specs.Outcome.{Outcome, given, unless, _>>=_, _>>_}
 use Rattle.octets.specs.Octets.{number, part}
 use Rattle.versions.specs.Versions.{Version, known, version}
 use Rattle.header_fields.specs.Fields.{Place, behind, whole, idAt}
 
--- the largest datagram
-abbrev pub limit : ℕ
-limit = 1500
+-- ---- who reads
+-- which versions it takes, and what it makes of a type of theirs, or refusal 6
+pub record Judge (A : Type 0) : Type 0 where
+  pub takes : ℕ → Bool
+  pub kind : Version → (type : ℕ) → Outcome A
+
+-- one type alone
+abbrev pub ofType : (takes : ℕ → Bool) → (wanted : Version → ℕ) → Judge (Unit {0})
+ofType takes wanted = record { takes = takes; kind = λ row type. unless 6 (eqb type (wanted row)) }
 
 -- ---- section 17.2: what every long header begins with, where it stands
-pub record Long : Type 0 where
+pub record Judged (A : Type 0) : Type 0 where
   pub version : ℕ
+  pub kind : A
+
+pub record Long (A : Type 0) : Type 0 where
+  pub version : ℕ
+  pub kind : A
   pub destination : Place
   pub source : Place
 
--- form and fixed bit, and the version behind them
+-- the version behind the first byte
 unfoldable pub versionOf : List ℕ → Outcome ℕ
 versionOf d = do
-  unless 1 (leb 1 (length d) && leb (length d) limit)
-  unless 2 (leb 0xc0 (getD d 0 0))
   whole d 1 4
   given (number (part d 1 4))
 
--- the version, where it is taken, and the type is that version's
-unfoldable pub judged : (takes : ℕ → Bool) → (type : Version → ℕ) → List ℕ → Outcome ℕ
-judged takes type d = do
+-- the version, where it is known and taken, and what the reader makes of that version's type
+unfoldable pub judged : {A : Type 0} → Judge A → List ℕ → Outcome (Judged A)
+judged judge d = do
   v ← versionOf d
-  unless 4 (known v && takes v)
-  unless 6 (eqb (getD d 0 0 / 16 % 4) (type (version v)))
-  given v
+  unless 4 (known v && judge .takes v)
+  kind ← judge .kind (version v) (getD d 0 0 / 16 % 4)
+  given (record { version = v; kind = kind })
 
--- the version and the two IDs
-unfoldable pub long : (takes : ℕ → Bool) → (type : Version → ℕ) → List ℕ → Outcome Long
-long takes type d = do
-  v ← judged takes type d
+-- and the two IDs
+unfoldable pub long : {A : Type 0} → Judge A → List ℕ → Outcome (Long A)
+long judge d = do
+  j ← judged judge d
   destination ← idAt d 5
   source ← idAt d (behind destination)
-  given (record { version = v; destination = destination; source = source })
+  given (record { version = j .version; kind = j .kind; destination = destination; source = source })

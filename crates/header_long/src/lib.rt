@@ -9,21 +9,24 @@ use versions::retry_type;
 ghost use mathlib.Core.Path.{_≡_};
 ghost use Rattle.versions.specs.Versions as Constants;
 ghost use Rattle.header_long.specs.LongHeader.{versionOf, judged, long};
-ghost use Rattle.header_long.specs.Answers.{takes, typeOf, versionAnswer, longAnswer};
+ghost use Rattle.header_long.specs.Answers.{takes, typeOf, judgeOf, versionAnswer, judgedAnswer, longAnswer};
 
-// The largest datagram, and the largest packet that is written.
-pub const LIMIT: usize = 1500;
-
-// Which versions are taken: every known one, or that of some keys.
-pub enum Wanted {
+// Which versions a reader takes: every known one, or that of some keys.
+pub enum Versions {
     Known,
     Only(u32),
 }
 
-// Which packets are taken.
-pub enum Kind {
+// Which packets it takes, by their type.
+pub enum Types {
     Initial,
     Retry,
+}
+
+// Who reads a long header.
+pub struct Judge {
+    pub versions: Versions,
+    pub types: Types,
 }
 
 // The version that a long header names, or why it names none.
@@ -45,48 +48,39 @@ pub enum LongReading {
     Read(Long),
 }
 
-// Whether a version is among those wanted.
-fn is_taken(wanted: Wanted, version: u32) -> bool
-    ensures { λ r. ⌜ r ≡ takes wanted version ⌝ }
+// Whether a version is taken.
+fn is_taken(versions: Versions, version: u32) -> bool
+    ensures { λ r. ⌜ r ≡ takes versions version ⌝ }
 {
-    match wanted {
-        Wanted::Known => true,
-        Wanted::Only(one) => version == one,
+    match versions {
+        Versions::Known => true,
+        Versions::Only(one) => version == one,
     }
 }
 
 // The type that a version gives to the packets taken.
-fn type_of(kind: Kind, version: u32) -> u8
-    ensures { λ r. ⌜ r ≡ typeOf kind (Constants.version version) ⌝ }
+fn type_of(types: Types, version: u32) -> u8
+    ensures { λ r. ⌜ r ≡ typeOf types (Constants.version version) ⌝ }
 {
-    match kind {
-        Kind::Initial => initial_type(version),
-        Kind::Retry => retry_type(version),
+    match types {
+        Types::Initial => initial_type(version),
+        Types::Retry => retry_type(version),
     }
 }
 
-// The version behind a first byte whose form and fixed bit are set.
+// The version behind the first byte.
 fn read_version(datagram: &[u8]) -> Version
     ensures { λ r. ⌜ versionAnswer r ≡ versionOf (now (datagram .entry)) ⌝ }
 {
-    if datagram.len() < 1 {
-        return Version::Refused(refusal::SIZE);
-    }
-    if LIMIT < datagram.len() {
-        return Version::Refused(refusal::SIZE);
-    }
-    if datagram[0] < 0xc0 {
-        return Version::Refused(refusal::FORM);
-    }
     if datagram.len() < 5 {
         return Version::Refused(refusal::NOT_WHOLE);
     }
     Version::Of(octets::word(datagram, 1))
 }
 
-// The version, where it is wanted, and the type is that version's.
-fn judge_version(datagram: &[u8], wanted: Wanted, kind: Kind) -> Version
-    ensures { λ r. ⌜ versionAnswer r ≡ judged (takes wanted) (typeOf kind) (now (datagram .entry)) ⌝ }
+// The version, where it is taken, and the type is that version's.
+fn judge_version(datagram: &[u8], judge: Judge) -> Version
+    ensures { λ r. ⌜ judgedAnswer r ≡ judged (judgeOf judge) (now (datagram .entry)) ⌝ }
 {
     let version = match read_version(datagram) {
         Version::Refused(why) => return Version::Refused(why),
@@ -95,20 +89,22 @@ fn judge_version(datagram: &[u8], wanted: Wanted, kind: Kind) -> Version
     if !is_known(version) {
         return Version::Refused(refusal::VERSION);
     }
-    if !is_taken(wanted, version) {
+    let versions = judge.versions;
+    if !is_taken(versions, version) {
         return Version::Refused(refusal::VERSION);
     }
-    if datagram[0] / 16 % 4 != type_of(kind, version) {
+    let types = judge.types;
+    if datagram[0] / 16 % 4 != type_of(types, version) {
         return Version::Refused(refusal::TYPE);
     }
     Version::Of(version)
 }
 
-// Section 17.2: what every long header begins with, of a version that is wanted and a packet of the kind.
-pub fn read_long(datagram: &[u8], wanted: Wanted, kind: Kind) -> LongReading
-    ensures { λ r. ⌜ longAnswer r ≡ long (takes wanted) (typeOf kind) (now (datagram .entry)) ⌝ }
+// Section 17.2: what every long header begins with, behind a first byte that was judged, as far as the reader takes it.
+pub fn read_long(datagram: &[u8], judge: Judge) -> LongReading
+    ensures { λ r. ⌜ longAnswer r ≡ long (judgeOf judge) (now (datagram .entry)) ⌝ }
 {
-    let version = match judge_version(datagram, wanted, kind) {
+    let version = match judge_version(datagram, judge) {
         Version::Refused(why) => return LongReading::Refused(why),
         Version::Of(version) => version,
     };

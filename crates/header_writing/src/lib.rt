@@ -1,46 +1,28 @@
-// RFC 9000 sections 16 and 17.2: integers and long headers, written at the start of a lent buffer.
+// RFC 9000 section 17.2: long headers, written at the start of a lent buffer.
+use integers_writing::smallest_form;
+use integers_writing::write_smallest;
+use integers_writing::write_two;
 ghost use mathlib.Core.Path.{_≡_};
 ghost use mathlib.Core.List.{_∷_};
-ghost use Prim.Native.Nat.{_+_, _^_, _≤_, _<_};
+ghost use Prim.Native.Nat.{_+_, _≤_};
 ghost use lib.ListN.{length};
 ghost use Rattle.octets.specs.Octets.{laid, Begins};
-ghost use Rattle.header_writing.specs.Written.{smallest, two, withLength, longFields, initialFields, InitialFits};
+ghost use Rattle.header_forms.specs.Rules.{inForce};
+ghost use Rattle.header_writing.specs.Written.{withLength, longFields, initialFields, InitialFits};
 
-// How many bytes the smallest form of an integer below 2^30 takes.
-pub fn smallest_form(value: usize) -> usize
-    ensures { λ r. ⌜ r ≡ length (smallest value) ⌝ }
+// How many bytes the rules in force write Length in: two, whatever it counts.
+pub fn length_form(_counted: usize) -> usize
+    ensures { λ r. ⌜ r ≡ length (inForce .lengthForm «_counted») ⌝ }
 {
-    if value < 64 {
-        return 1;
-    }
-    if value < 16384 {
-        return 2;
-    }
-    4
+    2
 }
 
-// An integer below 2^14 in two bytes.
-fn write_two(buffer: &mut [u8], at: usize, value: usize)
-    requires { ⌜ (value < 2 ^ 14) × (at + 2 ≤ length (now buffer)) ⌝ }
-    ensures { λ _. ⌜ now (buffer .exit) ≡ laid (now (buffer .entry)) at (two value) ⌝ }
+// Length, as the rules in force write it.
+fn write_length(buffer: &mut [u8], at: usize, counted: usize)
+    requires { ⌜ (counted ≤ inForce .limit) × (at + length (inForce .lengthForm counted) ≤ length (now buffer)) ⌝ }
+    ensures { λ _. ⌜ now (buffer .exit) ≡ laid (now (buffer .entry)) at (inForce .lengthForm counted) ⌝ }
 {
-    octets::store(buffer, at, 2, 16384 + value as u64);
-}
-
-// An integer below 2^30 in its smallest form.
-fn write_smallest(buffer: &mut [u8], at: usize, value: usize)
-    requires { ⌜ (value < 2 ^ 30) × (at + length (smallest value) ≤ length (now buffer)) ⌝ }
-    ensures { λ _. ⌜ now (buffer .exit) ≡ laid (now (buffer .entry)) at (smallest value) ⌝ }
-{
-    if value < 64 {
-        octets::store(buffer, at, 1, value as u64);
-        return;
-    }
-    if value < 16384 {
-        write_two(buffer, at, value);
-        return;
-    }
-    octets::store(buffer, at, 4, 2147483648 + value as u64);
+    write_two(buffer, at, counted);
 }
 
 // A connection ID behind its length byte.
@@ -82,13 +64,13 @@ pub fn write_initial(
     counted: usize,
 ) -> usize
     requires { ⌜ InitialFits (now destination) (now source) (now token) counted (now buffer) ⌝ }
-    ensures { λ r. ⌜ Begins (first ∷ initialFields version (now (destination .entry)) (now (source .entry)) (now (token .entry)) counted) (now (buffer .entry)) (now (buffer .exit)) r ⌝ }
+    ensures { λ r. ⌜ Begins (first ∷ initialFields inForce version (now (destination .entry)) (now (source .entry)) (now (token .entry)) counted) (now (buffer .entry)) (now (buffer .exit)) r ⌝ }
 {
     let token_length_at = write_long(buffer, first, version, destination, source);
     write_smallest(buffer, token_length_at, token.len());
     let token_at = token_length_at + smallest_form(token.len());
     octets::copy(buffer, token_at, token);
     let length_at = token_at + token.len();
-    write_two(buffer, length_at, counted);
-    length_at + 2
+    write_length(buffer, length_at, counted);
+    length_at + length_form(counted)
 }

@@ -2,7 +2,7 @@
 use Prim.Native.Nat.{ℕ}
 use mathlib.Core.Path.{_≡_, sym, ap₂, _∙_}
 use mathlib.Core.List.{List}
-use Rattle.packets.specs.declared.Keys as Code
+use Rattle.protection.specs.declared.Keys as Code
 use Rattle.keys_expansion.proofs.OneAnswer.{keys-once}
 use Rattle.keys.specs.declared.Side.{Side}
 use Rattle.keys.specs.declared.InitialKeys.{InitialKeys}

@@ -4,8 +4,8 @@ use mathlib.Core.Path.{_≡_}
 use mathlib.Core.List.{List}
 use lib.ListN.{replicate}
 use Rattle.octets.specs.Outcome.{Outcome, refused, given}
-use Rattle.packets.specs.Protection.{Keys}
-use Rattle.packets.specs.KeyRecord.{keysOf}
+use Rattle.protection.specs.Protection.{Keys}
+use Rattle.protection.specs.KeyRecord.{keysOf}
 use Rattle.keys.specs.InitialKeys as Section5
 use Rattle.keys.specs.InitialKeys.{initialKeys}
 use Rattle.keys.specs.declared.Side.{Side}

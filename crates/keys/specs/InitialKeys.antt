@@ -8,7 +8,7 @@ use Rattle.octets.specs.Text.{ascii}
 use Rattle.hkdf.specs.Hkdf.{extract, expandLabel}
 use Rattle.versions.specs.Versions.{known, version}
 use Rattle.header_fields.specs.Fields.{longestId}
-use Rattle.packets.specs.Protection.{Keys}
+use Rattle.protection.specs.Protection.{Keys}
 use Rattle.keys_expansion.specs.Expansion.{keysFrom}
 
 pub data Side : Type 0 where

@@ -2,12 +2,12 @@
 use header_fields::LONGEST_ID;
 use keys_expansion::keys_from;
 use octets::refusal;
-use packets::Keys;
+use protection::Keys;
 ghost use mathlib.Core.Path.{_≡_};
 ghost use Prim.Native.Nat.{_≤_};
 ghost use lib.ListN.{length};
 ghost use Rattle.header_fields.specs.Fields.{longestId};
-ghost use Rattle.packets.specs.KeyRecord.{keysOf};
+ghost use Rattle.protection.specs.KeyRecord.{keysOf};
 ghost use Rattle.keys.specs.InitialKeys.{sideSecret};
 ghost use Rattle.keys.specs.Answers.{sideOf, blankKeys, InitialKeysMade};
 

@@ -1,9 +1,9 @@
 -- A contract on the keys that a record stands for permits one record only.
 use mathlib.Core.Path.{_≡_, refl}
 use Rattle.octets.proofs.Outcome.{once}
-use Rattle.packets.specs.Protection.{Keys}
-use Rattle.packets.specs.KeyRecord.{keysOf}
-use Rattle.packets.specs.declared.Keys as Code
+use Rattle.protection.specs.Protection.{Keys}
+use Rattle.protection.specs.KeyRecord.{keysOf}
+use Rattle.protection.specs.declared.Keys as Code
 
 -- the code's record of keys
 abbrev keysBack : Keys → Code.Keys

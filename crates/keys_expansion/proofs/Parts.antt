@@ -2,7 +2,7 @@
 use Prim.Native.Nat.{ℕ}
 use mathlib.Core.Path.{_≡_}
 use mathlib.Core.List.{List}
-use Rattle.packets.specs.Protection.{Keys}
+use Rattle.protection.specs.Protection.{Keys}
 
 -- keys are the same where their parts are
 pub keys-same : (v : ℕ) {key key′ iv iv′ hp hp′ : List ℕ} → key ≡ key′ → iv ≡ iv′ → hp ≡ hp′

@@ -3,7 +3,7 @@ use Prim.Native.Nat.{ℕ}
 use mathlib.Core.List.{List}
 use Rattle.hkdf.specs.Hkdf.{expandLabel}
 use Rattle.versions.specs.Versions.{Version, version}
-use Rattle.packets.specs.Protection.{Keys}
+use Rattle.protection.specs.Protection.{Keys}
 use Rattle.keys_expansion.specs.declared.Part.{Part}
 use Rattle.keys_expansion.specs.declared.Part.the-variants as Part
 

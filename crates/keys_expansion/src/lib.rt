@@ -1,11 +1,11 @@
 // RFC 9001 section 5.1: a sender's keys, from its secret.
-use packets::Keys;
+use protection::Keys;
 ghost use mathlib.Core.Path.{_≡_};
 ghost use Prim.Native.Nat.{_≤_};
 ghost use lib.ListN.{length, take};
 ghost use Rattle.hkdf.specs.Hkdf.{expandLabel};
 ghost use Rattle.versions.specs.Versions as Versions;
-ghost use Rattle.packets.specs.KeyRecord.{keysOf};
+ghost use Rattle.protection.specs.KeyRecord.{keysOf};
 ghost use Rattle.keys_expansion.specs.Expansion.{labelOf, keysFrom};
 
 // What is expanded from a sender's secret.

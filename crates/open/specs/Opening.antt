@@ -5,10 +5,12 @@ use mathlib.Core.List.{List}
 use lib.ListN.{length}
 use Rattle.octets.specs.Outcome.{Outcome, refused, given}
 use Rattle.octets.specs.Octets.{placed}
-use Rattle.packets.specs.Protection.{Keys}
-use Rattle.packets.specs.Packet.{Opened, opened}
+use Rattle.protection.specs.Protection.{Keys}
+use Rattle.header_forms.specs.Rules.{inForce}
+use Rattle.protection.specs.Clear.{Opened}
+use Rattle.packets.specs.Packet.{opened}
 use Rattle.packets.specs.Effects.{output, after}
-use Rattle.packets.specs.AesGcm.{aesGcm}
+use Rattle.protection.specs.AesGcm.{aesGcm}
 use Rattle.open_writing.specs.declared.Opened as Code
 use Rattle.open.specs.declared.Opening.{Opening}
 use Rattle.open.specs.declared.Opening.the-variants as Opening
@@ -45,7 +47,13 @@ reported (given o) = given (record {
   bytesUsed = o .used;
 })
 
+-- by an outcome
+pub record Leaves (o : Outcome Opened) (expected next : ℕ) (before then : List ℕ) (r : Opening) : Type 0 where
+  pub answer : openingAnswer r ≡ reported o
+  pub number : next ≡ after expected o
+  pub buffer : then ≡ placed (output o) before
+
 pub record Open (k : Keys) (d : List ℕ) (expected next : ℕ) (before then : List ℕ) (r : Opening) : Type 0 where
-  pub answer : openingAnswer r ≡ reported (opened aesGcm k expected d (length before))
-  pub number : next ≡ after expected (opened aesGcm k expected d (length before))
-  pub buffer : then ≡ placed (output (opened aesGcm k expected d (length before))) before
+  pub answer : openingAnswer r ≡ reported (opened aesGcm inForce k expected d (length before))
+  pub number : next ≡ after expected (opened aesGcm inForce k expected d (length before))
+  pub buffer : then ≡ placed (output (opened aesGcm inForce k expected d (length before))) before

@@ -1,50 +1,49 @@
--- What is left of opening once the header is read and the mask taken off: the number's range, and then the tag alone.
-use Prim.Native.Nat.{ℕ, _+_, _-_, _/_, _%_, _≤_}
-use mathlib.Core.Path.{_≡_, refl, sym, ap, _∙_}
+-- What was found under the mask of a packet whose header was read is what was found in the datagram.
+use Prim.Native.Nat.{ℕ, _+_, _-_, _≤_}
+use mathlib.Core.Path.{_≡_, _∙_}
 use mathlib.Core.Bool.{true}
 use mathlib.Core.List.{List}
 use native.Mathlib.Omega.{arith}
 use lib.Dec.{eqb}
 use Rattle.octets.specs.Outcome.{refused, given}
-use Rattle.octets.specs.Octets.{bytes, number as spells}
-use Rattle.octets.proofs.Numbers.{byte-power, number-back}
 use Rattle.numbers.specs.Numbers.{numbers}
-use Rattle.numbers_recovery.specs.Recovery.{decoded, recovered}
 use Rattle.versions.specs.Versions.{known}
-use Rattle.header_initial.specs.InitialHeader.{Header, header}
+use Rattle.header_forms.specs.Rules.{inForce}
+use Rattle.header_forms.specs.Forms.{longForm, formed}
+use Rattle.header_forms.proofs.Forms.{formed-fits}
 use Rattle.header_fields.specs.Fields.{tagLength}
-use Rattle.numbers.specs.declared.FullPn.{FullPn}
+use Rattle.header_initial.specs.InitialHeader.{Header, header, initials}
 use Rattle.header_initial.proofs.InitialHeaders.{header-there}
-use Rattle.packets.specs.Protection.{Keys}
+use Rattle.protection.specs.Protection.{Keys}
+use Rattle.protection.specs.AesGcm.{aesGcm}
 use Rattle.packets.specs.Packet.{opened}
-use Rattle.packets.specs.AesGcm.{aesGcm}
-use Rattle.packets.proofs.Opening.{number-some, number-few, recovery-refused, recovery-given, open-range, open-judged}
-use Rattle.open_unmasking.specs.Unmasking.{Unmasks}
-use Rattle.open_unmasking.specs.declared.Bare.{Bare}
-use Rattle.open_unmasking.specs.declared.Packet.{Packet}
-use Rattle.open_judging.specs.Found.{Found}
+use Rattle.packets.proofs.Opening.{open-protected}
+use Rattle.open_revealing.specs.Revealing.{Placed, Reveals}
+use Rattle.open_revealing.specs.declared.Finding.{Finding}
+use Rattle.open_revealing.specs.declared.Finding.the-variants as Finding
+use Rattle.open_judging.specs.Found.{Finds}
 
-module _ (k : Keys) (e : ℕ) (d : List ℕ) (room : ℕ) (fair : e ≤ numbers) (ours : known (k .version) ≡ true) {h : Header}
-    (read : given h ≡ header (λ v. eqb v (k .version)) d) (enough : h .numberAt + h .length′ - tagLength ≤ room) {b : Bare}
-    (u : Unmasks k d (h .numberAt) b) (zeros : b .first / 4 % 4 ≡ 0) where
-  same-number : decoded e (b .truncated .0) (b .count) ≡ decoded e (spells (bytes (b .count) (b .truncated .0))) (b .count)
-  same-number = rw (number-back (b .count) (b .truncated .0) (rw (byte-power (b .count)) (u .small)))
+module _ (k : Keys) (e : ℕ) (d : List ℕ) (room : ℕ) (fair : e ≤ numbers) (ours : known (k .version) ≡ true) (long : given tt ≡ formed inForce longForm d) {h : Header}
+    (read : given h ≡ header (initials (λ v. eqb v (k .version))) d) where
+  -- the packet lies whole in the datagram
+  pub placed : Placed e d (h .numberAt) (h .length′)
+  placed =
+      let there = header-there (initials (λ v. eqb v (k .version))) d read in
+      record { fair = fair; headed = omega arith; enough = there .enough; all = there .all }
 
-  pub range-refused : {why : ℕ} → refused why ≡ recovered e (b .truncated .0) (b .count) → opened aesGcm k e d room ≡ refused why
-  range-refused is =
-      let r = recovery-refused e (b .truncated .0) (b .count) fair (number-some (u .bare)) (number-few (u .bare)) (u .small) is in
-      open-range aesGcm k e d room fair ours read enough (u .bare) zeros (rw (← same-number) (r .1)) ∙ ap refused (sym (r .0))
-
-  abbrev packet : FullPn → Packet
-  packet m = record { first = b .first; count = b .count; truncated = b .truncated; number = m; place = h .numberAt; length = h .length′ }
-
-  pub packet-found : (m : FullPn) → given (m .0) ≡ recovered e (b .truncated .0) (b .count) → Found k e d room (packet m)
-  packet-found m is =
-      let r = recovery-given e (b .truncated .0) (b .count) fair (number-some (u .bare)) (number-few (u .bare)) (u .small) is in
-      let there = header-there (λ v. eqb v (k .version)) d read in
+  pub found : h .numberAt + h .length′ - tagLength ≤ room → (f : Finding) → Reveals longForm k e d (h .numberAt) (h .length′) f → Finds k e d room f
+  found enough (Finding.Refused n) r = open-protected aesGcm inForce k e d room fair ours long read enough ∙ r
+  found enough (Finding.Found p) r =
+      let there = header-there (initials (λ v. eqb v (k .version))) d read in
       record {
-        within = record { fits = omega arith; headed = omega arith; few = number-few (u .bare); enough = omega arith; all = omega arith };
-        holds = omega arith;
-        small = r .1;
-        left = open-judged aesGcm k e d room fair ours read enough (u .bare) zeros (r .0 ∙ same-number) (r .1) refl;
+        within = record {
+          fits = formed-fits inForce longForm d long;
+          headed = omega (arith, r .stands);
+          few = r .few;
+          enough = omega (arith, r .counts, there .enough);
+          all = omega (arith, r .stands, r .counts, there .all);
+        };
+        holds = omega (arith, r .stands, r .counts);
+        small = r .small;
+        left = open-protected aesGcm inForce k e d room fair ours long read enough ∙ r .left;
       }

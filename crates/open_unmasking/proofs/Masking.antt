@@ -8,12 +8,13 @@ use Rattle.octets.proofs.Parts.{part-length}
 use Rattle.octets.proofs.Numbers.{number-below, bytes-back}
 use Rattle.octets.proofs.Xor.{xor-length}
 use Rattle.octets.proofs.Buffers.{front-laid}
-use Rattle.packets.specs.Protection.{Keys, onFirst, onNumber}
-use Rattle.packets.specs.Packet.{maskOf}
-use Rattle.packets.specs.Parts.{Unmasked}
-use Rattle.packets.specs.AesGcm.{aesGcm}
-use Rattle.packets.proofs.Parts.{mask-rest}
-use Rattle.packets.proofs.Opening.{number-length}
+use Rattle.header_forms.specs.Forms.{Form}
+use Rattle.protection.specs.Protection.{Keys, onFirst, onNumber}
+use Rattle.protection.specs.Clear.{maskOf}
+use Rattle.protection.specs.Parts.{Unmasked}
+use Rattle.protection.specs.AesGcm.{aesGcm}
+use Rattle.protection.proofs.Parts.{mask-rest}
+use Rattle.protection.proofs.Unprotecting.{number-length}
 use Rattle.open_unmasking.specs.Unmasking.{Spells, Unmasks}
 use Rattle.open_unmasking.specs.declared.Bare.{Bare}
 
@@ -31,16 +32,16 @@ short-taken d mask buffer place len count sixteen is inside =
     rw (is, mask-rest mask sixteen) (front-laid buffer short count counted)
 
 -- what they spell is the short number
-pub unmasks : (k : Keys) (d mask short : List ℕ) (place : ℕ) (b : Bare) → place + b .count ≤ length d
-    → mask ≡ maskOf aesGcm k d place
-    → b .first ≡ onFirst mask (getD d 0 0)
+pub unmasks : (form : Form) (k : Keys) (d mask short : List ℕ) (place : ℕ) (b : Bare) → place + b .count ≤ length d
+    → mask ≡ maskOf aesGcm (k .hp) d place
+    → b .first ≡ onFirst form mask (getD d 0 0)
     → b .count ≡ b .first % 4 + 1
     → short ≡ onNumber mask (part d place (b .count))
     → Spells short (b .truncated .0)
-    → Unmasks k d place b
-unmasks k d mask short place b inside its-mask its-first its-length its-number s =
+    → Unmasks form k d place b
+unmasks form k d mask short place b inside its-mask its-first its-length its-number s =
     let counted = number-length under inside in
     record { small = rw (← counted) (s .small); bare = rw (← its-mask, sym (s .spelled ∙ ap (λ (n : ℕ). bytes n (b .truncated .0)) counted)) under }
   where
-    under : Unmasked aesGcm k d place mask (b .first) (b .count) short
+    under : Unmasked aesGcm form k d place mask (b .first) (b .count) short
     under = record { its-mask = its-mask; its-first = its-first; its-length = its-length; its-number = its-number }

@@ -3,9 +3,9 @@ use Prim.Native.Nat.{ℕ, _+_, _≤_}
 use mathlib.Core.List.{List}
 use lib.ListN.{length}
 use Rattle.octets.specs.Octets.{bytes}
-use Rattle.header_long.specs.LongHeader.{limit}
+use Rattle.header_forms.specs.Rules.{inForce}
 use Rattle.header_fields.specs.Fields.{leastLength}
-use Rattle.packets.specs.Parts.{plainIn, cipherIn, tagIn}
+use Rattle.protection.specs.Parts.{plainIn, cipherIn, tagIn}
 use Rattle.open_unmasking.specs.declared.Packet.{Packet}
 
 -- section 5.3: the associated data, the ciphertext and the tag
@@ -20,7 +20,7 @@ tagOf d p = tagIn d (p .place) (p .length)
 
 -- a packet that lies whole in a datagram
 pub record Within (d : List ℕ) (p : Packet) : Type 0 where
-  pub fits : length d ≤ limit
+  pub fits : length d ≤ inForce .limit
   pub headed : 1 ≤ p .place
   pub few : p .count ≤ 4
   pub enough : leastLength ≤ p .length

@@ -1,10 +1,13 @@
 // Opening, RFC 9001 section 5.4: the mask taken off, and what a packet is without it.
+use header_forms::Form;
+use header_forms::mask_first;
 use numbers::FullPn;
 use numbers::TruncatedPn;
-use packets::Keys;
+use protection::Keys;
 ghost use Prim.Native.Nat.{_+_, _≤_};
 ghost use lib.ListN.{length};
-ghost use Rattle.packets.specs.KeyRecord.{keysOf};
+ghost use Rattle.header_forms.specs.Answers.{formOf};
+ghost use Rattle.protection.specs.KeyRecord.{keysOf};
 ghost use Rattle.open_unmasking.specs.Unmasking.{Spells, Unmasks};
 
 // Without the mask: the first byte, and the short number with the count of its bytes.
@@ -34,13 +37,13 @@ fn read_short(short: &[u8]) -> TruncatedPn
 }
 
 // Section 5.4.1: the mask taken from the first byte and from the number that stands at a place.
-pub fn unmask(keys: Keys, datagram: &[u8], place: usize) -> Bare
+pub fn unmask(form: Form, keys: Keys, datagram: &[u8], place: usize) -> Bare
     requires { ⌜ place + 20 ≤ length (now datagram) ⌝ }
-    ensures { λ r. ⌜ Unmasks (keysOf keys) (now (datagram .entry)) place r ⌝ }
+    ensures { λ r. ⌜ Unmasks (formOf form) (keysOf keys) (now (datagram .entry)) place r ⌝ }
 {
     let hp = keys.hp;
-    let mask = packets::mask_of(&hp, datagram, place);
-    let first = datagram[0] ^ (mask[0] % 16);
+    let mask = protection::mask_of(&hp, datagram, place);
+    let first = mask_first(form, mask[0], datagram[0]);
     let count = (first % 4 + 1) as usize;
     let end = place + count;
     let mut short = [0u8; 4];

@@ -1,21 +1,16 @@
 -- What an opening gives where a packet was sealed, and what it leaves: the bytes for the lent buffer, and the number expected next.
 use Prim.Native.Nat.{ℕ, _+_, max}
 use mathlib.Core.List.{List, _++_}
-use lib.ListN.{length}
 use Rattle.octets.specs.Outcome.{Outcome, refused, given}
-use Rattle.header_writing.specs.Written.{Plain, plainHeader}
-use Rattle.packets.specs.Protection.{Keys}
-use Rattle.packets.specs.Packet.{Opened}
+use Rattle.header_forms.specs.Rules.{Rules}
+use Rattle.header_writing.specs.Written.{Plain}
+use Rattle.protection.specs.Protection.{Keys}
+use Rattle.protection.specs.Clear.{Opened, whatWasProtected}
+use Rattle.packets.specs.Packet.{clearOf}
 
 -- all that went into the packet: its plain header, number and payload, and how long it is
-abbrev pub whatWasSealed : Keys → Plain → (packet : List ℕ) → Opened
-whatWasSealed k p packet = record {
-  packetNumber = p .packetNumber;
-  numberLength = p .numberLength;
-  plain = plainHeader (k .version) p;
-  payload = p .payload;
-  used = length packet;
-}
+abbrev pub whatWasSealed : Rules → Keys → Plain → (packet : List ℕ) → Opened
+whatWasSealed rules k p packet = whatWasProtected (clearOf rules (k .version) p) packet
 
 -- plain header, then payload
 abbrev pub output : Outcome Opened → Outcome (List ℕ)

@@ -6,11 +6,12 @@ use Rattle.hkdf.specs.Hkdf.{tls13, info}
 use Rattle.integers.specs.Integer.{integer}
 use Rattle.numbers_shortening.specs.Shortening.{coverable, ahead, gap, halvings, smallestLength, shortened}
 use Rattle.numbers_recovery.specs.Recovery.{decoded, recovered}
-use Rattle.packets.specs.Protection.{onFirst, onNumber, masked}
+use Rattle.header_forms.specs.Forms.{maskedFirst}
+use Rattle.protection.specs.Protection.{onFirst, onNumber, masked}
 use Rattle.receiver.specs.Boundaries.{Table}
 
 pub boundaries : Table
-unfolding bytes number xor ascii tls13 info onFirst onNumber masked integer coverable ahead gap halvings smallestLength shortened decoded recovered
+unfolding bytes number xor ascii tls13 info maskedFirst onFirst onNumber masked integer coverable ahead gap halvings smallestLength shortened decoded recovered
 boundaries = record {
   two-bytes = refl;
   two-where-one-would-do = refl;

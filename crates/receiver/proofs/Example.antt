@@ -14,12 +14,16 @@ use Rattle.integers.specs.Integer.{integer}
 use Rattle.numbers_shortening.specs.Shortening.{nothing, coverable, ahead, gap, shortened}
 use Rattle.numbers_recovery.specs.Recovery.{decoded}
 use Rattle.header_fields.specs.Fields.{idAt, integerAt, fieldAt, restAt}
+use Rattle.header_forms.specs.Rules.{inForce}
+use Rattle.header_forms.specs.Forms.{maskedFirst, reservedBits, formed}
 use Rattle.header_long.specs.LongHeader.{versionOf, judged, long}
 use Rattle.header_initial.specs.InitialHeader.{header}
-use Rattle.header_writing.specs.Written.{two, smallest, longFields, initialFields, firstByte}
-use Rattle.packets.specs.Suite.{Laws}
-use Rattle.packets.specs.Protection.{nonce, onFirst, onNumber, sampleOf}
-use Rattle.packets.specs.Packet.{bodyWith, bodyOf, packetOf, sealed, unprotected, opened}
+use Rattle.integers_writing.specs.Written.{two, smallest}
+use Rattle.header_writing.specs.Written.{longFields, initialFields, firstByte}
+use Rattle.protection.specs.Suite.{Laws}
+use Rattle.protection.specs.Protection.{nonce, onFirst, onNumber, sampleOf}
+use Rattle.protection.specs.Clear.{bodyWith, bodyOf, protected, revealed, decrypted, unprotected}
+use Rattle.packets.specs.Packet.{sealed, opened}
 use Rattle.receiver.specs.Receiver.{Good, Fair}
 use Rattle.receiver.specs.Example.{toy, keys, plainOf, sealedOf, parcelOf, comes, empty, damaged, coming, opens, refuses, lent, Example}
 use Rattle.receiver.proofs.Receiver.{demand3}
@@ -33,7 +37,7 @@ laws = record {
 }
 
 -- packet m is good where e is expected, if it is sealed, in 33 bytes, and its number is near
-good : (e m : ℕ) → sealed toy keys nothing (plainOf m) 33 ≡ given (sealedOf m) → length (sealedOf m) ≡ 33 → T (ltb e (m + 128)) → T (leb m (e + 128))
+good : (e m : ℕ) → sealed toy inForce keys nothing (plainOf m) 33 ≡ given (sealedOf m) → length (sealedOf m) ≡ 33 → T (ltb e (m + 128)) → T (leb m (e + 128))
     → Good toy keys e (parcelOf m) lent
 unfolding parcelOf plainOf
 good e m made sized below above = record {
@@ -46,11 +50,11 @@ good e m made sized below above = record {
 fair : Fair toy keys 0 coming
 unfolding toy keys plainOf sealedOf parcelOf comes empty damaged coming
     bytes number xor version1 draft2 known version integer coverable ahead gap shortened decoded
-    idAt versionOf judged long integerAt fieldAt restAt header two smallest longFields initialFields firstByte
-    nonce onFirst onNumber sampleOf same bodyWith bodyOf packetOf sealed unprotected opened
+    formed idAt versionOf judged long integerAt fieldAt restAt header two smallest longFields initialFields firstByte
+    nonce maskedFirst reservedBits onFirst onNumber sampleOf same bodyWith bodyOf protected sealed revealed decrypted unprotected opened
 fair = (good 0 0 refl refl tt tt, (refl, (good 1 2 refl refl tt tt, (good 3 2 refl refl tt tt, (refl, (good 3 4 refl refl tt tt, (good 5 3 refl refl tt tt, tt)))))))
 
 -- what is owed, as bytes
 pub example : Example
-unfolding keys plainOf sealedOf parcelOf comes empty damaged coming opens refuses toy bytes number xor version1 version two smallest longFields initialFields firstByte nonce onFirst onNumber sampleOf bodyWith bodyOf packetOf
+unfolding keys plainOf sealedOf parcelOf comes empty damaged coming opens refuses toy bytes number xor version1 version two smallest longFields initialFields firstByte nonce maskedFirst onFirst onNumber sampleOf bodyWith bodyOf protected
 example = let r = demand3 toy laws keys 0 coming (lit≤ tt) fair in record { each = r .each; last = r .last }

@@ -9,7 +9,8 @@ use Rattle.hkdf.specs.Hkdf.{info}
 use Rattle.integers.specs.Integer.{integer}
 use Rattle.numbers_shortening.specs.Shortening.{upTo, smallestLength, shortened}
 use Rattle.numbers_recovery.specs.Recovery.{recovered}
-use Rattle.packets.specs.Protection.{masked}
+use Rattle.header_forms.specs.Forms.{longForm}
+use Rattle.protection.specs.Protection.{masked}
 
 pub record Table : Type 0 where
   -- 7bbd reads 15,293; 4025 reads 37, in two bytes
@@ -35,5 +36,5 @@ pub record Table : Type 0 where
   pub at-2^62 : recovered (2 ^ 62) 0 1 ≡ refused 10
   pub below-2^62 : recovered (2 ^ 62 - 1) 0 1 ≡ given (2 ^ 62 - 256)
   -- document 003's server header, whose number stands in two bytes at 18, under its mask
-  pub server-header : masked (bytes 5 0x41103f438e) 18 2 (bytes 20 0xd1709a50c40008f067a5502a4262b50040750001)
+  pub server-header : masked longForm (bytes 5 0x41103f438e) 18 2 (bytes 20 0xd1709a50c40008f067a5502a4262b50040750001)
       ≡ bytes 20 0xd0709a50c40008f067a5502a4262b5004075103e

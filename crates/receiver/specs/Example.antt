@@ -7,8 +7,9 @@ use Rattle.octets.specs.Outcome.{refused, given}
 use Rattle.octets.specs.Octets.{bytes, number, xor}
 use Rattle.numbers_shortening.specs.Shortening.{nothing}
 use Rattle.header_writing.specs.Written.{Plain}
-use Rattle.packets.specs.Suite.{Suite}
-use Rattle.packets.specs.Protection.{Keys}
+use Rattle.header_forms.specs.Rules.{inForce}
+use Rattle.protection.specs.Suite.{Suite}
+use Rattle.protection.specs.Protection.{Keys}
 use Rattle.packets.specs.Packet.{packetOf}
 use Rattle.receiver.specs.Receiver.{Yield, yields, expectedAfter, Parcel, rubbish, parcel, Coming, arrivals}
 
@@ -41,7 +42,7 @@ plainOf m = record {
 }
 
 unfoldable pub sealedOf : (m : ℕ) → List ℕ
-sealedOf m = packetOf toy keys (plainOf m)
+sealedOf m = packetOf toy inForce keys (plainOf m)
 
 -- every buffer has twenty bytes
 abbrev pub lent : List ℕ

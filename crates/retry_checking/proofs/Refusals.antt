@@ -8,14 +8,17 @@ use lib.Dec.{leb}
 use lib.ListN.{length, take, drop}
 use borrow.Author.Tests.{le-leb, lt-leb, leb-true}
 use Rattle.octets.specs.Outcome.{refused, given}
-use Rattle.octets.proofs.Outcome.{passed, stepped, given-same}
+use Rattle.octets.proofs.Outcome.{passed, stepped, followed, given-same}
+use Rattle.header_forms.specs.Rules.{Rules}
+use Rattle.header_forms.specs.Forms.{longForm, formed}
+use Rattle.header_forms.proofs.Forms.{formed-fits}
 use Rattle.header_fields.specs.Fields.{Place, behind, longestId, tagLength}
 use Rattle.header_long.specs.LongHeader.{Long, long}
 use Rattle.header_fields.proofs.Fields.{Within}
-use Rattle.header_long.proofs.LongHeaders.{long-there}
+use Rattle.header_long.proofs.LongHeaders.{LongThere, long-there}
 use Rattle.octets.specs.Octets.{same}
 use Rattle.retry_tag.specs.Tag.{retryTag}
-use Rattle.retry_checking.specs.Retry.{RetryFields, tokenAt, retryChecked}
+use Rattle.retry_checking.specs.Retry.{RetryFields, tokenAt, retries, retryHeader, retryChecked}
 
 -- ---- the token and the tag behind it
 module _ (d : List ℕ) (at : ℕ) where
@@ -45,29 +48,49 @@ token-there d at is =
     let fits = leb-true (at + tagLength) (length d) (all .0) in
     rw (← (given-same (some .1))) (record { after = omega arith; end = omega arith })
 
+-- ---- what a Retry begins with
+module _ (rules : Rules) (d : List ℕ) where
+  pub header-not-formed : {n : ℕ} → refused n ≡ formed rules longForm d → retryHeader rules d ≡ refused n
+  unfolding retryHeader
+  header-not-formed e = rw (← e)
+
+  pub header-formed : given tt ≡ formed rules longForm d → retryHeader rules d ≡ long retries d
+  unfolding retryHeader
+  header-formed e = rw (← e)
+
+pub record HeaderThere (rules : Rules) (d : List ℕ) (l : Long (Unit {0})) : Type 0 where
+  pub fits : length d ≤ rules .limit
+  pub long : LongThere (λ v. true) d l
+
+pub header-there : (rules : Rules) (d : List ℕ) {l : Long (Unit {0})} → given l ≡ retryHeader rules d → HeaderThere rules d l
+unfolding retryHeader
+header-there rules d is =
+    let one = followed (formed rules longForm d) _ (sym is) in
+    record { fits = formed-fits rules longForm d (sym (one .1)); long = long-there retries d (sym (one .2)) }
+
 -- ---- checking
-module _ (original d : List ℕ) where
-  pub check-long-original : longestId < length original → retryChecked original d ≡ refused 5
+module _ (rules : Rules) (original d : List ℕ) where
+  pub check-long-original : longestId < length original → retryChecked rules original d ≡ refused 5
   unfolding retryChecked
   check-long-original h = rw (lt-leb (length original) longestId h)
 
   module _ (o : length original ≤ longestId) where
-    pub check-no-long : {n : ℕ} → refused n ≡ long (λ v. true) (λ v. v .retryType) d → retryChecked original d ≡ refused n
+    pub check-no-long : {n : ℕ} → refused n ≡ retryHeader rules d → retryChecked rules original d ≡ refused n
     unfolding retryChecked
     check-no-long e = rw (le-leb (length original) longestId o, ← e)
 
-    module _ {l : Long} (is-long : given l ≡ long (λ v. true) (λ v. v .retryType) d) where
-      pub check-no-token : {n : ℕ} → refused n ≡ tokenAt d (behind (l .source)) → retryChecked original d ≡ refused n
+    module _ {l : Long (Unit {0})} (is-long : given l ≡ retryHeader rules d) where
+      pub check-no-token : {n : ℕ} → refused n ≡ tokenAt d (behind (l .source)) → retryChecked rules original d ≡ refused n
       unfolding retryChecked
       check-no-token e = rw (le-leb (length original) longestId o, ← is-long, ← e)
 
       module _ {t : Place} (is-token : given t ≡ tokenAt d (behind (l .source))) where
-        pub check-other-tag : same (drop (behind t) d) (retryTag (l .version) original (take (behind t) d)) ≡ false → retryChecked original d ≡ refused 11
+        pub check-other-tag : same (drop (behind t) d) (retryTag (l .version) original (take (behind t) d)) ≡ false → retryChecked rules original d ≡ refused 11
         unfolding retryChecked
         check-other-tag h = rw (le-leb (length original) longestId o, ← is-long, ← is-token, h)
 
         pub check-given : same (drop (behind t) d) (retryTag (l .version) original (take (behind t) d)) ≡ true
-            → retryChecked original d ≡ given (record { version = l .version; destination = l .destination; source = l .source; token = t })
+            → retryChecked rules original d ≡ given (record { version = l .version; destination = l .destination; source = l .source; token = t })
         unfolding retryChecked
         check-given h = rw (le-leb (length original) longestId o, ← is-long, ← is-token, h)
 
@@ -77,14 +100,14 @@ pub record RetryThere (d : List ℕ) (f : RetryFields) : Type 0 where
   pub source : Within d (behind (f .destination)) (f .source)
   pub token : TokenThere d (behind (f .source)) (f .token)
 
-pub retry-there : (original d : List ℕ) {f : RetryFields} → given f ≡ retryChecked original d → RetryThere d f
+pub retry-there : (rules : Rules) (original d : List ℕ) {f : RetryFields} → given f ≡ retryChecked rules original d → RetryThere d f
 unfolding retryChecked
-retry-there original d is =
+retry-there rules original d is =
     let o = passed 5 (leb (length original) longestId) _ (sym is) in
-    let l = stepped (long (λ v. true) (λ v. v .retryType) d) _ (o .1) in
+    let l = stepped (retryHeader rules d) _ (o .1) in
     let t = stepped (tokenAt d (behind (l .0 .source))) _ (l .2) in
     let tag = passed 11 (same (drop (behind (t .0)) d) (retryTag (l .0 .version) original (take (behind (t .0)) d))) _ (t .2) in
-    let begin = long-there (λ v. true) (λ v. v .retryType) d (sym (l .1)) in
+    let begin = header-there rules d (sym (l .1)) .long in
     rw (← (given-same (tag .1))) (record {
       destination = begin .destination;
       source = begin .source;

@@ -3,6 +3,7 @@ use Prim.Native.Nat.{ℕ}
 use mathlib.Core.Path.{_≡_}
 use mathlib.Core.List.{List}
 use Rattle.octets.specs.Outcome.{Outcome, refused, given}
+use Rattle.header_forms.specs.Rules.{inForce}
 use Rattle.header_fields.specs.Answers.{placeOf}
 use Rattle.retry_checking.specs.Retry as Section17
 use Rattle.retry_checking.specs.Retry.{retryChecked}
@@ -23,4 +24,4 @@ checkingAnswer (Checking.Refused n) = refused n
 checkingAnswer (Checking.Checked f) = given (fieldsOf f)
 
 pub record CheckRetry (original datagram : List ℕ) (r : Checking) : Type 0 where
-  pub answer : checkingAnswer r ≡ retryChecked original datagram
+  pub answer : checkingAnswer r ≡ retryChecked inForce original datagram

@@ -7,7 +7,9 @@ use lib.ListN.{length, take, drop}
 use Rattle.octets.specs.Outcome.{Outcome, given, unless, _>>=_, _>>_}
 use Rattle.versions.specs.Versions.{version}
 use Rattle.header_fields.specs.Fields.{Place, behind, longestId, whole, tagLength}
-use Rattle.header_long.specs.LongHeader.{long}
+use Rattle.header_forms.specs.Rules.{Rules}
+use Rattle.header_forms.specs.Forms.{longForm, formed}
+use Rattle.header_long.specs.LongHeader.{Judge, ofType, Long, long}
 use Rattle.octets.specs.Octets.{same}
 use Rattle.retry_tag.specs.Tag.{retryTag}
 
@@ -26,10 +28,19 @@ tokenAt d at = do
   unless 13 (leb 1 len)
   given (record { at = at; len = len })
 
-unfoldable pub retryChecked : (original d : List ℕ) → Outcome RetryFields
-retryChecked original d = do
+-- who reads Retry packets, of every known version
+abbrev pub retries : Judge (Unit {0})
+retries = ofType (λ v. true) (λ v. v .retryType)
+
+unfoldable pub retryHeader : Rules → List ℕ → Outcome (Long (Unit {0}))
+retryHeader rules d = do
+  formed rules longForm d
+  long retries d
+
+unfoldable pub retryChecked : Rules → (original d : List ℕ) → Outcome RetryFields
+retryChecked rules original d = do
   unless 5 (leb (length original) longestId)
-  l ← long (λ v. true) (λ v. v .retryType) d
+  l ← retryHeader rules d
   token ← tokenAt d (behind (l .source))
   unless 11 (same (drop (behind token) d) (retryTag (l .version) original (take (behind token) d)))
   given (record { version = l .version; destination = l .destination; source = l .source; token = token })

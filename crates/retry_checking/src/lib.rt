@@ -3,17 +3,23 @@ use header_fields::Found;
 use header_fields::LONGEST_ID;
 use header_fields::Place;
 use header_fields::TAG_LENGTH;
-use header_long::Kind;
+use header_forms::Form;
+use header_forms::Formed;
+use header_forms::judge_form;
+use header_long::Judge;
 use header_long::LongReading;
-use header_long::Wanted;
+use header_long::Types;
+use header_long::Versions;
 use header_long::read_long;
 use octets::refusal;
 use retry_tag::tag_of;
 ghost use mathlib.Core.Path.{_≡_};
 ghost use Prim.Native.Nat.{_≤_};
 ghost use lib.ListN.{length};
+ghost use Rattle.header_forms.specs.Rules.{inForce};
 ghost use Rattle.header_fields.specs.Answers.{foundAnswer};
-ghost use Rattle.retry_checking.specs.Retry.{tokenAt};
+ghost use Rattle.header_long.specs.Answers.{longAnswer};
+ghost use Rattle.retry_checking.specs.Retry.{tokenAt, retryHeader};
 ghost use Rattle.retry_checking.specs.Answers.{CheckRetry};
 
 // The version of a Retry that was checked, and where its parts stand.
@@ -28,6 +34,21 @@ pub struct RetryFields {
 pub enum Checking {
     Refused(u8),
     Checked(RetryFields),
+}
+
+// RFC 9000 section 17.2: what a Retry begins with, as every long header does.
+fn read_retry(datagram: &[u8]) -> LongReading
+    ensures { λ r. ⌜ longAnswer r ≡ retryHeader inForce (now (datagram .entry)) ⌝ }
+{
+    match judge_form(datagram, Form::Long) {
+        Formed::Refused(why) => return LongReading::Refused(why),
+        Formed::Right => {}
+    }
+    let judge = Judge {
+        versions: Versions::Known,
+        types: Types::Retry,
+    };
+    read_long(datagram, judge)
 }
 
 // The token: all between a place and the tag that ends the datagram.
@@ -53,7 +74,7 @@ pub fn check_retry(original: &[u8], datagram: &[u8]) -> Checking
     if LONGEST_ID < original.len() {
         return Checking::Refused(refusal::LONG_ID);
     }
-    let long = match read_long(datagram, Wanted::Known, Kind::Retry) {
+    let long = match read_retry(datagram) {
         LongReading::Refused(why) => return Checking::Refused(why),
         LongReading::Read(long) => long,
     };

@@ -1,21 +1,23 @@
 -- RFC 9001 section 5.8: what is written is accepted, and handed back as it was.
-use Prim.Native.Nat.{ℕ, _+_, _-_, _%_}
+use Prim.Native.Nat.{ℕ, _+_, _-_, _/_, _%_}
 use mathlib.Core.Path.{_≡_, refl, sym, ap, _∙_}
 use mathlib.Core.Bool.{true}
 use mathlib.Core.List.{List, _∷_, _++_, append-assoc}
 use native.Mathlib.Omega.{arith}
-use lib.ListN.{length, take, drop, length-append}
+use lib.ListN.{length, getD, take, drop, length-append}
 use lib.Seq.{take-at, drop-at}
 use Rattle.octets.specs.Outcome.{given}
 use Rattle.versions.specs.Versions.{version}
-use Rattle.header_long.specs.LongHeader.{long}
+use Rattle.header_forms.specs.Rules.{Rules}
+use Rattle.header_forms.specs.Forms.{longForm, formed}
+use Rattle.header_forms.proofs.Forms.{formed-right}
 use Rattle.header_fields.specs.Fields.{tagLength}
 use Rattle.header_fields.specs.Answers.{handed}
 use Rattle.header_writing.specs.Written.{longFirst, longFields}
 use Rattle.versions.proofs.Versions.{retry-fits}
 use Rattle.header_fields.proofs.Fields.{handed-part}
-use Rattle.header_writing.proofs.HeaderBack.{first-form, long-read, longPlaces, behind-ids, destination-back, source-back}
-use Rattle.header_writing.proofs.Places.{At, part-at}
+use Rattle.header_writing.proofs.HeaderBack.{first-form, type-taken, long-read, longPlaces, behind-ids, destination-back, source-back}
+use Rattle.octets.proofs.Places.{At, part-at}
 use Rattle.octets.specs.Octets.{same}
 use Rattle.octets.proofs.Same.{equal-same}
 use Rattle.retry_tag.specs.Tag.{retryTag, tagged}
@@ -23,8 +25,8 @@ use Rattle.retry_tag.proofs.Tags.{retry-tag-length}
 use Rattle.retry_writing.specs.Written.{untagged, retryWritten}
 use Rattle.retry_writing.proofs.Packets.{untagged-length}
 use Rattle.retry_writing.proofs.Refusals.{RetryMade, retry-made}
-use Rattle.retry_checking.specs.Retry.{RetryFields, tokenAt, retryChecked}
-use Rattle.retry_checking.proofs.Refusals.{token-found, check-given}
+use Rattle.retry_checking.specs.Retry.{RetryFields, tokenAt, retries, retryHeader, retryChecked}
+use Rattle.retry_checking.proofs.Refusals.{header-formed, token-found, check-given}
 
 -- where the parts stand
 abbrev pub retryPlaces : (v : ℕ) (destination source token : List ℕ) → RetryFields
@@ -36,13 +38,13 @@ retryPlaces v destination source token = record {
 }
 
 -- a packet that checking accepts, and whose parts are these
-pub record Accepted (v : ℕ) (original destination source token packet : List ℕ) : Type 0 where
-  pub places : retryChecked original packet ≡ given (retryPlaces v destination source token)
-  pub destination-handed : handed (retryChecked original packet) (λ f. f .destination) packet ≡ destination
-  pub source-handed : handed (retryChecked original packet) (λ f. f .source) packet ≡ source
-  pub token-handed : handed (retryChecked original packet) (λ f. f .token) packet ≡ token
+pub record Accepted (rules : Rules) (v : ℕ) (original destination source token packet : List ℕ) : Type 0 where
+  pub places : retryChecked rules original packet ≡ given (retryPlaces v destination source token)
+  pub destination-handed : handed (retryChecked rules original packet) (λ f. f .destination) packet ≡ destination
+  pub source-handed : handed (retryChecked rules original packet) (λ f. f .source) packet ≡ source
+  pub token-handed : handed (retryChecked rules original packet) (λ f. f .token) packet ≡ token
 
-module _ (v : ℕ) (original destination source token : List ℕ) (low : ℕ) (packet : List ℕ) (made : RetryMade v original destination source token low packet) where
+module _ (rules : Rules) (v : ℕ) (original destination source token : List ℕ) (low : ℕ) (packet : List ℕ) (made : RetryMade rules v original destination source token low packet) where
   abbrev first : ℕ
   first = longFirst (version v .retryType) (low % 16)
 
@@ -60,15 +62,23 @@ module _ (v : ℕ) (original destination source token : List ℕ) (low : ℕ) (p
   unfolding tagged untagged
   is-long = made .is ∙ ap (λ (s : List ℕ). first ∷ s) (append-assoc (longFields v destination source) token after)
 
-  long-back : long (λ v. true) (λ v. v .retryType) packet ≡ given (longPlaces v destination source)
+  form : first / 16 ≡ 12 + version v .retryType
+  form = first-form (version v .retryType) (low % 16) (omega arith)
+
+  is-formed : formed rules longForm packet ≡ given tt
+  is-formed =
+      let byte : getD packet 0 0 ≡ first = rw is-long in
+      let some = ap length is-long in
+      formed-right rules longForm packet (omega arith) (made .fits) (omega (arith, form, retry-fits v))
+
+  long-back : retryHeader rules packet ≡ given (longPlaces v tt destination source)
   long-back =
-      long-read (λ v. true) (λ v. v .retryType) v first destination source packet (token ++ after) (record {
+      header-formed rules packet (sym is-formed)
+      ∙ long-read retries v first tt destination source packet (token ++ after) (record {
         is = is-long;
-        fits = made .fits;
-        form = first-form (version v .retryType) (low % 16) (omega arith);
-        narrow = retry-fits v;
         ours = made .ours;
         taken = refl;
+        judges = type-taken (λ v. true) (λ v. v .retryType) v first form (retry-fits v);
         short-destination = made .short-destination;
         short-source = made .short-source;
       })
@@ -91,10 +101,10 @@ module _ (v : ℕ) (original destination source token : List ℕ) (low : ℕ) (p
       let here : length before ≡ tokenPlace + length token = untagged-length v destination source token low ∙ omega arith in
       equal-same _ _ (rw (made .is, take-at before after (tokenPlace + length token) here, drop-at before after (tokenPlace + length token) here))
 
-  checked : retryChecked original packet ≡ given (retryPlaces v destination source token)
-  checked = check-given original packet (made .short-original) (sym long-back) (sym token-read) tag-read
+  checked : retryChecked rules original packet ≡ given (retryPlaces v destination source token)
+  checked = check-given rules original packet (made .short-original) (sym long-back) (sym token-read) tag-read
 
-  pub accepted : Accepted v original destination source token packet
+  pub accepted : Accepted rules v original destination source token packet
   accepted = record {
     places = checked;
     destination-handed = sym (handed-part (λ f. f .destination) packet (sym checked)) ∙ destination-back v first destination source packet (token ++ after) is-long;
@@ -103,7 +113,7 @@ module _ (v : ℕ) (original destination source token : List ℕ) (low : ℕ) (p
   }
 
 -- for both versions, with nothing behind: the same original accepts it, and the version, the IDs and the token are those that were written
-pub written-accepted : (v : ℕ) (original destination source token : List ℕ) (low room : ℕ) {packet : List ℕ}
-    → retryWritten v original destination source token low room ≡ given packet → Accepted v original destination source token packet
-written-accepted v original destination source token low room {packet = packet} is =
-    accepted v original destination source token low packet (retry-made v original destination source token low room is)
+pub written-accepted : (rules : Rules) (v : ℕ) (original destination source token : List ℕ) (low room : ℕ) {packet : List ℕ}
+    → retryWritten rules v original destination source token low room ≡ given packet → Accepted rules v original destination source token packet
+written-accepted rules v original destination source token low room {packet = packet} is =
+    accepted rules v original destination source token low packet (retry-made rules v original destination source token low room is)

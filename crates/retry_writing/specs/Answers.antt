@@ -5,7 +5,7 @@ use mathlib.Core.List.{List}
 use lib.ListN.{length}
 use Rattle.octets.specs.Outcome.{Outcome, refused, given}
 use Rattle.octets.specs.Octets.{placed, lengthGiven}
-use Rattle.header_long.specs.LongHeader.{limit}
+use Rattle.header_forms.specs.Rules.{inForce}
 use Rattle.header_fields.specs.Fields.{longestId, tagLength}
 use Rattle.retry_writing.specs.Written.{retryWritten}
 use Rattle.retry_writing.specs.declared.Writing.{Writing}
@@ -16,8 +16,8 @@ writingAnswer (Writing.Refused n) = refused n
 writingAnswer (Writing.Written n) = given n
 
 pub record WriteRetry (v : ℕ) (original destination source token : List ℕ) (low : ℕ) (before : List ℕ) (r : Writing) (after : List ℕ) : Type 0 where
-  pub answer : writingAnswer r ≡ lengthGiven (retryWritten v original destination source token low (length before))
-  pub output : after ≡ placed (retryWritten v original destination source token low (length before)) before
+  pub answer : writingAnswer r ≡ lengthGiven (retryWritten inForce v original destination source token low (length before))
+  pub output : after ≡ placed (retryWritten inForce v original destination source token low (length before)) before
 
 -- how long a Retry of these parts is
 abbrev pub sizeOf : (destination source token : List ℕ) → ℕ
@@ -28,5 +28,5 @@ pub record Writable (original destination source token buffer : List ℕ) : Type
   pub short-original : length original ≤ longestId
   pub short-destination : length destination ≤ longestId
   pub short-source : length source ≤ longestId
-  pub size : sizeOf destination source token ≤ limit
+  pub size : sizeOf destination source token ≤ inForce .limit
   pub room : sizeOf destination source token ≤ length buffer

@@ -5,7 +5,7 @@ use lib.Dec.{leb}
 use lib.ListN.{length}
 use Rattle.octets.specs.Outcome.{Outcome, given, unless, _>>=_, _>>_}
 use Rattle.versions.specs.Versions.{known, version}
-use Rattle.header_long.specs.LongHeader.{limit}
+use Rattle.header_forms.specs.Rules.{Rules}
 use Rattle.header_fields.specs.Fields.{longestId}
 use Rattle.header_writing.specs.Written.{longFirst, longFields}
 use Rattle.retry_tag.specs.Tag.{tagged}
@@ -16,14 +16,14 @@ unfoldable pub untagged : (v : ℕ) (destination source token : List ℕ) (low :
 untagged v destination source token low = longFirst (version v .retryType) (low % 16) ∷ longFields v destination source ++ token
 
 -- ---- writing
-unfoldable pub retryWritten : (v : ℕ) (original destination source token : List ℕ) (low room : ℕ) → Outcome (List ℕ)
-retryWritten v original destination source token low room = do
+unfoldable pub retryWritten : Rules → (v : ℕ) (original destination source token : List ℕ) (low room : ℕ) → Outcome (List ℕ)
+retryWritten rules v original destination source token low room = do
   unless 4 (known v)
   unless 5 (leb (length original) longestId)
   unless 5 (leb (length destination) longestId)
   unless 5 (leb (length source) longestId)
   unless 13 (leb 1 (length token))
   let packet = tagged v original (untagged v destination source token low)
-  unless 1 (leb (length packet) limit)
+  unless 1 (leb (length packet) (rules .limit))
   unless 8 (leb (length packet) room)
   given packet

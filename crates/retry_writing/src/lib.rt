@@ -1,7 +1,7 @@
 // Retry packets, written: RFC 9000 section 17.2.5.
 use header_fields::LONGEST_ID;
 use header_fields::TAG_LENGTH;
-use header_long::LIMIT;
+use header_forms::LIMIT;
 use octets::refusal;
 use retry_tag::tag_of;
 ghost use Rattle.octets.specs.Octets.{Begins};

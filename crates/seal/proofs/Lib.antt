@@ -1,3 +1,3 @@
-pub mod Protecting
+pub mod Places
 pub mod Answers
 pub mod OneAnswer

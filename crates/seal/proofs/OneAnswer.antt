@@ -4,7 +4,7 @@ use Prim.Native.Nat.{ℕ}
 use mathlib.Core.List.{List}
 use Rattle.numbers_shortening.specs.Shortening.{Acknowledged}
 use Rattle.header_writing.specs.Written.{Plain}
-use Rattle.packets.specs.Protection.{Keys}
+use Rattle.protection.specs.Protection.{Keys}
 use Rattle.seal_judging.specs.declared.Sealing.{Sealing}
 use Rattle.seal_judging.proofs.OneAnswer.{judge-once}
 use Rattle.seal.specs.Sealing.{Seal}

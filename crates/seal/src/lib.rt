@@ -1,23 +1,24 @@
 // Sealing: RFC 9001 section 5, as docs/SCOPE.md, "Protection", has it.
+use header_forms::Form;
 use numbers::FullPn;
 use numbers_shortening::Acknowledged;
-use packets::Keys;
-use seal_body::write_body;
+use protection::Keys;
 use seal_header::write_header;
 use seal_judging::Sealing;
 use seal_judging::judge;
-use seal_masking::protect;
+use seal_protecting::protect_packet;
 ghost use mathlib.Core.Path.{_≡_};
 ghost use lib.ListN.{length};
 ghost use Rattle.octets.specs.Octets.{begun};
+ghost use Rattle.header_forms.specs.Rules.{inForce};
 ghost use Rattle.numbers_shortening.specs.Answers.{acknowledgedOf};
-ghost use Rattle.packets.specs.KeyRecord.{keysOf};
+ghost use Rattle.protection.specs.KeyRecord.{keysOf};
 ghost use Rattle.packets.specs.Packet.{packetOf};
 ghost use Rattle.packets.specs.Sealable.{Writable};
-ghost use Rattle.packets.specs.AesGcm.{aesGcm};
+ghost use Rattle.protection.specs.AesGcm.{aesGcm};
 ghost use Rattle.seal.specs.Sealing.{Seal};
 
-// Sections 5.3 and 5.4: the packet, protected, at the buffer's start.
+// Sections 5.3 and 5.4: the packet with its header, protected, at the buffer's start.
 fn write_packet(
     keys: Keys,
     number: u64,
@@ -29,11 +30,8 @@ fn write_packet(
     buffer: &mut [u8],
 )
     requires { ⌜ Writable (record { destination = now destination; source = now source; token = now token; payload = now payload; packetNumber = number; numberLength = count }) (length (now buffer)) ⌝ }
-    ensures { λ _. ⌜ now (buffer .exit) ≡ begun (packetOf aesGcm (keysOf keys) (record { destination = now (destination .entry); source = now (source .entry); token = now (token .entry); payload = now (payload .entry); packetNumber = number; numberLength = count })) (now (buffer .entry)) ⌝ }
+    ensures { λ _. ⌜ now (buffer .exit) ≡ begun (packetOf aesGcm inForce (keysOf keys) (record { destination = now (destination .entry); source = now (source .entry); token = now (token .entry); payload = now (payload .entry); packetNumber = number; numberLength = count })) (now (buffer .entry)) ⌝ }
 {
-    let key = keys.key;
-    let iv = keys.iv;
-    let hp = keys.hp;
     let place = write_header(
         keys.version,
         number,
@@ -44,10 +42,7 @@ fn write_packet(
         payload,
         buffer,
     );
-    let nonce = packets::nonce_of(&iv, number);
-    write_body(&key, &nonce, payload, buffer, place + count);
-    let mask = packets::mask_of(&hp, buffer, place);
-    protect(mask, place, count, buffer);
+    protect_packet(Form::Long, keys, number, count, payload, place, buffer);
 }
 
 // A packet sealed at the buffer's start, its number in `count` bytes; the answer is its length, and the bytes behind it stay.

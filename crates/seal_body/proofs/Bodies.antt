@@ -10,8 +10,8 @@ use Rattle.aes_schedule.specs.Expansion.{expansion}
 use Rattle.gcm_counter.specs.Counter.{stream, streamBy}
 use Rattle.gcm.specs.Gcm.{tag, tagBy, hashKey}
 use Rattle.gcm_counter.proofs.Laws.{stream-by-length}
-use Rattle.packets.specs.Packet.{bodyWith}
-use Rattle.packets.specs.AesGcm.{aesGcm}
+use Rattle.protection.specs.Clear.{bodyWith}
+use Rattle.protection.specs.AesGcm.{aesGcm}
 
 -- the tag's last two pieces are empty
 pub one-piece : (schedule : List ℕ) (h : ℕ) (once header cipher : List ℕ) → tagBy schedule h once (header ++ [] ++ []) cipher ≡ tagBy schedule h once header cipher

@@ -10,48 +10,48 @@ use Rattle.octets.specs.Octets.{lengthGiven}
 use Rattle.numbers_shortening.specs.Shortening.{Acknowledged, shortened}
 use Rattle.versions.specs.Versions.{known}
 use Rattle.header_fields.specs.Fields.{longestId}
-use Rattle.header_long.specs.LongHeader.{limit}
+use Rattle.header_forms.specs.Rules.{inForce}
 use Rattle.header_writing.specs.Written.{Plain}
-use Rattle.packets.specs.Protection.{Keys}
+use Rattle.protection.specs.Protection.{Keys}
 use Rattle.packets.specs.Packet.{packetOf, sealed}
 use Rattle.packets.specs.Sealable.{sizeOf}
-use Rattle.packets.specs.AesGcm.{aesGcm}
-use Rattle.packets.proofs.AesGcmLaws.{aes-gcm-laws}
+use Rattle.protection.specs.AesGcm.{aesGcm}
+use Rattle.protection.proofs.AesGcmLaws.{aes-gcm-laws}
 use Rattle.packets.proofs.Sealing.{seal-size, seal-room, seal-given, packet-size}
 use Rattle.seal_judging.specs.Judging.{sized}
 
 module _ (size room : ℕ) where
-  pub over-limit : limit < size → refused 1 ≡ sized size room
+  pub over-limit : inForce .limit < size → refused 1 ≡ sized size room
   unfolding sized
-  over-limit h = rw (lt-leb size limit h)
+  over-limit h = rw (lt-leb size (inForce .limit) h)
 
-  pub over-room : size ≤ limit → room < size → refused 8 ≡ sized size room
+  pub over-room : size ≤ inForce .limit → room < size → refused 8 ≡ sized size room
   unfolding sized
-  over-room fits h = rw (le-leb size limit fits, lt-leb size room h)
+  over-room fits h = rw (le-leb size (inForce .limit) fits, lt-leb size room h)
 
-  pub within : size ≤ limit → size ≤ room → given size ≡ sized size room
+  pub within : size ≤ inForce .limit → size ≤ room → given size ≡ sized size room
   unfolding sized
-  within fits h = rw (le-leb size limit fits, le-leb size room h)
+  within fits h = rw (le-leb size (inForce .limit) fits, le-leb size room h)
 
 -- all is judged but size and room
 module _ (k : Keys) (a : Acknowledged) (p : Plain) (room : ℕ) (ours : known (k .version) ≡ true) {t : ℕ} (short : given t ≡ shortened (p .packetNumber) a (p .numberLength))
     (d : length (p .destination) ≤ longestId) (s : length (p .source) ≤ longestId) (enough : 4 ≤ p .numberLength + length (p .payload)) where
-  size : length (packetOf aesGcm k p) ≡ sizeOf p
-  size = packet-size aesGcm k p aes-gcm-laws
+  size : length (packetOf aesGcm inForce k p) ≡ sizeOf inForce p
+  size = packet-size aesGcm inForce k p aes-gcm-laws
 
-  pub size-left : sized (sizeOf p) room ≡ lengthGiven (sealed aesGcm k a p room)
-  size-left = by (leb (sizeOf p) limit) refl (leb (sizeOf p) room) refl
+  pub size-left : sized (sizeOf inForce p) room ≡ lengthGiven (sealed aesGcm inForce k a p room)
+  size-left = by (leb (sizeOf inForce p) (inForce .limit)) refl (leb (sizeOf inForce p) room) refl
     where
-      by : (b : Bool) → leb (sizeOf p) limit ≡ b → (c : Bool) → leb (sizeOf p) room ≡ c → sized (sizeOf p) room ≡ lengthGiven (sealed aesGcm k a p room)
+      by : (b : Bool) → leb (sizeOf inForce p) (inForce .limit) ≡ b → (c : Bool) → leb (sizeOf inForce p) room ≡ c → sized (sizeOf inForce p) room ≡ lengthGiven (sealed aesGcm inForce k a p room)
       by false large c e =
           let h = leb-false _ _ large in
-          sym (over-limit (sizeOf p) room h) ∙ ap lengthGiven (sym (seal-size aesGcm k a p room ours short d s enough (rw size h)))
+          sym (over-limit (sizeOf inForce p) room h) ∙ ap lengthGiven (sym (seal-size aesGcm inForce k a p room ours short d s enough (rw size h)))
       by true fits false full =
           let f = leb-true _ _ fits in
           let h = leb-false _ _ full in
-          sym (over-room (sizeOf p) room f h) ∙ ap lengthGiven (sym (seal-room aesGcm k a p room ours short d s enough (rw size f) (rw size h)))
+          sym (over-room (sizeOf inForce p) room f h) ∙ ap lengthGiven (sym (seal-room aesGcm inForce k a p room ours short d s enough (rw size f) (rw size h)))
       by true fits true enters =
           let f = leb-true _ _ fits in
           let h = leb-true _ _ enters in
-          sym (within (sizeOf p) room f h) ∙ ap given (sym size)
-          ∙ ap lengthGiven (sym (seal-given aesGcm k a p room ours short d s enough (rw size f) (rw size h)))
+          sym (within (sizeOf inForce p) room f h) ∙ ap given (sym size)
+          ∙ ap lengthGiven (sym (seal-given aesGcm inForce k a p room ours short d s enough (rw size f) (rw size h)))

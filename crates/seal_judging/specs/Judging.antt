@@ -2,7 +2,7 @@
 use Prim.Native.Nat.{ℕ}
 use lib.Dec.{leb}
 use Rattle.octets.specs.Outcome.{Outcome, refused, given, unless, _>>_}
-use Rattle.header_long.specs.LongHeader.{limit}
+use Rattle.header_forms.specs.Rules.{inForce}
 use Rattle.seal_judging.specs.declared.Sealing.{Sealing}
 use Rattle.seal_judging.specs.declared.Sealing.the-variants as Sealing
 
@@ -13,6 +13,6 @@ sealingAnswer (Sealing.Written n) = given n
 -- a packet's size, judged: the last two refusals of sealing
 unfoldable pub sized : (size room : ℕ) → Outcome ℕ
 sized size room = do
-  unless 1 (leb size limit)
+  unless 1 (leb size (inForce .limit))
   unless 8 (leb size room)
   given size

@@ -1,24 +1,24 @@
 // Sealing, as far as nothing is written: what is asked is judged in the order of docs/SCOPE.md, "Order of refusals".
 use header_fields::LONGEST_ID;
 use header_fields::TAG_LENGTH;
-use header_long::LIMIT;
+use header_forms::LIMIT;
 use numbers::FullPn;
 use numbers_shortening::Acknowledged;
 use numbers_shortening::Shortened;
 use numbers_shortening::shorten;
 use octets::refusal;
-use packets::Keys;
+use protection::Keys;
 ghost use mathlib.Core.Path.{_≡_};
 ghost use Prim.Native.Nat.{_+_, _≤_};
 ghost use lib.ListN.{length};
 ghost use Rattle.octets.specs.Octets.{lengthGiven};
 ghost use Rattle.numbers_shortening.specs.Answers.{acknowledgedOf};
 ghost use Rattle.header_fields.specs.Fields.{longestId};
-ghost use Rattle.header_long.specs.LongHeader.{limit};
-ghost use Rattle.header_writing.specs.Written.{smallest};
-ghost use Rattle.packets.specs.KeyRecord.{keysOf};
+ghost use Rattle.integers_writing.specs.Written.{smallest};
+ghost use Rattle.header_forms.specs.Rules.{inForce};
+ghost use Rattle.protection.specs.KeyRecord.{keysOf};
 ghost use Rattle.packets.specs.Packet.{sealed};
-ghost use Rattle.packets.specs.AesGcm.{aesGcm};
+ghost use Rattle.protection.specs.AesGcm.{aesGcm};
 ghost use Rattle.seal_judging.specs.Judging.{sealingAnswer, sized};
 
 // What sealing answers: a refusal's number, or the packet's length.
@@ -29,15 +29,17 @@ pub enum Sealing {
 
 // How long the packet is, where no part of it is over the limit.
 fn size_of(count: usize, destination: usize, source: usize, token: usize, payload: usize) -> usize
-    requires { ⌜ (count ≤ 4) × (destination ≤ limit) × (source ≤ limit) × (token ≤ limit) × (payload ≤ limit) ⌝ }
-    ensures { λ r. ⌜ r ≡ 9 + destination + source + length (smallest token) + token + (count + payload + 16) ⌝ }
+    requires { ⌜ (count ≤ 4) × (destination ≤ inForce .limit) × (source ≤ inForce .limit) × (token ≤ inForce .limit) × (payload ≤ inForce .limit) ⌝ }
+    ensures { λ r. ⌜ r ≡ 7 + destination + source + length (smallest token) + token + length (inForce .lengthForm (count + payload + 16)) + (count + payload + 16) ⌝ }
 {
-    9
+    let counted = count + payload + TAG_LENGTH;
+    7
         + destination
         + source
-        + header_writing::smallest_form(token)
+        + integers_writing::smallest_form(token)
         + token
-        + (count + payload + TAG_LENGTH)
+        + header_writing::length_form(counted)
+        + counted
 }
 
 // Whether a packet with parts of these lengths is over the limit, or over the room for it; its length, where it is neither.
@@ -50,7 +52,7 @@ fn judge_size(
     room: usize,
 ) -> Sealing
     requires { ⌜ (count ≤ 4) × (destination ≤ longestId) × (source ≤ longestId) ⌝ }
-    ensures { λ r. ⌜ sealingAnswer r ≡ sized (9 + destination + source + length (smallest token) + token + (count + payload + 16)) room ⌝ }
+    ensures { λ r. ⌜ sealingAnswer r ≡ sized (7 + destination + source + length (smallest token) + token + length (inForce .lengthForm (count + payload + 16)) + (count + payload + 16)) room ⌝ }
 {
     if LIMIT < token {
         return Sealing::Refused(refusal::SIZE);
@@ -80,7 +82,7 @@ pub fn judge(
     payload: &[u8],
     room: usize,
 ) -> Sealing
-    ensures { λ r. ⌜ sealingAnswer r ≡ lengthGiven (sealed aesGcm (keysOf keys) (acknowledgedOf acknowledged) (record { destination = now (destination .entry); source = now (source .entry); token = now (token .entry); payload = now (payload .entry); packetNumber = number .0; numberLength = count }) room) ⌝ }
+    ensures { λ r. ⌜ sealingAnswer r ≡ lengthGiven (sealed aesGcm inForce (keysOf keys) (acknowledgedOf acknowledged) (record { destination = now (destination .entry); source = now (source .entry); token = now (token .entry); payload = now (payload .entry); packetNumber = number .0; numberLength = count }) room) ⌝ }
 {
     if !versions::is_known(keys.version) {
         return Sealing::Refused(refusal::VERSION);

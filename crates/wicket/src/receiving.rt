@@ -5,7 +5,7 @@ use console::fields::END;
 use console::files;
 use open::Opening;
 use open_writing::Opened;
-use packets::Keys;
+use protection::Keys;
 use terminal::lines::Ending;
 use terminal::lines::blanks_to_zeros;
 use terminal::lines::from_start;

@@ -15,13 +15,13 @@ returns c = sym (header-no-long _ _ (sym (ap longAnswer (c .before .why .given .
 
 add-field-at : tie.Need-add-field-at
 add-field-at c =
-    let there = long-there _ _ _ (sym (ap longAnswer (c .before .before .before .before .long .given .1)) ∙ c .before .before .before .before .before .before .read-long .ensures) in
+    let there = long-there _ _ (sym (ap longAnswer (c .before .before .before .before .long .given .1)) ∙ c .before .before .before .before .before .before .read-long .ensures) in
     omega arith
 
 field-at-requires : tie.Need-field-at-requires
 field-at-requires c κs =
     let long = sym (ap longAnswer (c .before .before .before .before .long .given .1)) ∙ c .before .before .before .before .before .before .read-long .ensures in
-    long-there _ _ _ long .source .inside
+    long-there _ _ long .source .inside
 
 returns-2 : tie.Need-returns-2
 returns-2 c =
@@ -32,14 +32,14 @@ add-rest-at : tie.Need-add-rest-at
 add-rest-at c =
     let long = sym (ap longAnswer (c .before .before .before .before .before .before .before .before .before .long .given .1)) ∙ c .before .before .before .before .before .before .before .before .before .before .before .read-long .ensures in
     let token = sym (ap foundAnswer (c .before .before .place .given .1)) ∙ c .before .before .before .before .field-at .ensures in
-    let within = field-within _ _ (long-there _ _ _ long .source .inside) token in
+    let within = field-within _ _ (long-there _ _ long .source .inside) token in
     omega arith
 
 rest-at-requires : tie.Need-rest-at-requires
 rest-at-requires c κs =
     let long = sym (ap longAnswer (c .before .before .before .before .before .before .before .before .before .long .given .1)) ∙ c .before .before .before .before .before .before .before .before .before .before .before .read-long .ensures in
     let token = sym (ap foundAnswer (c .before .before .place .given .1)) ∙ c .before .before .before .before .field-at .ensures in
-    field-within _ _ (long-there _ _ _ long .source .inside) token .inside
+    field-within _ _ (long-there _ _ long .source .inside) token .inside
 
 returns-3 : tie.Need-returns-3
 returns-3 c =

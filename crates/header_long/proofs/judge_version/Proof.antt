@@ -4,23 +4,23 @@ use borrow.Author.Tests.{not-true, not-false}
 use borrow.Author.Needs.{needs}
 use native.Mathlib.Omega.{arith}
 use Rattle.header_long.specs.Answers.{versionAnswer}
-use Rattle.header_long.proofs.LongHeaders.{version-there, judged-none, judged-unknown, judged-other, judged-type, judged-right}
+use Rattle.header_long.proofs.LongHeaders.{version-there, judged-none, judged-unknown, judged-other, type-other, type-right}
 use Rattle.header_long.proofs.judge_version.Statement.{statement}
 use Rattle.header_long.proofs.judge_version.Tie as tie
 
 returns : tie.Need-returns
-returns c = sym (judged-none _ _ _ (sym (ap versionAnswer (c .before .why .given .1)) ∙ c .before .before .before .read-version .ensures))
+returns c = sym (judged-none _ _ (sym (ap versionAnswer (c .before .why .given .1)) ∙ c .before .before .before .read-version .ensures))
 
 returns-2 : tie.Need-returns-2
 returns-2 c =
     let is = sym (ap versionAnswer (c .before .before .before .version .given .1)) ∙ c .before .before .before .before .before .read-version .ensures in
-    sym (judged-unknown _ _ _ is (sym (c .before .is-known .ensures) ∙ not-true _ (c .if1 .taken)))
+    sym (judged-unknown _ _ is (sym (c .before .is-known .ensures) ∙ not-true _ (c .if1 .taken)))
 
 returns-3 : tie.Need-returns-3
 returns-3 c =
     let is = sym (ap versionAnswer (c .before .before .before .before .before .version .given .1)) ∙ c .before .before .before .before .before .before .before .read-version .ensures in
     let ours = sym (c .before .before .before .is-known .ensures) ∙ not-false _ (c .before .before .if1 .left) in
-    sym (judged-other _ _ _ is ours (sym (c .before .is-taken .ensures) ∙ not-true _ (c .if2 .taken)))
+    sym (judged-other _ _ is ours (sym (c .before .is-taken .ensures) ∙ not-true _ (c .if2 .taken)))
 
 shared-slice-read-if3 : tie.Need-shared-slice-read-if3
 shared-slice-read-if3 c =
@@ -32,14 +32,14 @@ returns-4 c =
     let is = sym (ap versionAnswer (c .before .before .before .before .before .before .before .before .version .given .1)) ∙ c .before .before .before .before .before .before .before .before .before .before .read-version .ensures in
     let ours = sym (c .before .before .before .before .before .before .is-known .ensures) ∙ not-false _ (c .before .before .before .before .before .if1 .left) in
     let taken = sym (c .before .before .before .before .is-taken .ensures) ∙ not-false _ (c .before .before .before .if2 .left) in
-    sym (judged-type _ _ _ is ours taken (λ e. c .if3 .taken (e ∙ sym (c .before .type-of .ensures))))
+    sym (type-other _ _ _ is ours taken (λ e. c .if3 .taken (e ∙ sym (c .before .type-of .ensures))))
 
 returns-5 : tie.Need-returns-5
 returns-5 c =
     let is = sym (ap versionAnswer (c .before .before .before .before .before .before .before .before .version .given .1)) ∙ c .before .before .before .before .before .before .before .before .before .before .read-version .ensures in
     let ours = sym (c .before .before .before .before .before .before .is-known .ensures) ∙ not-false _ (c .before .before .before .before .before .if1 .left) in
     let taken = sym (c .before .before .before .before .is-taken .ensures) ∙ not-false _ (c .before .before .before .if2 .left) in
-    sym (judged-right _ _ _ is ours taken (c .if3 .left ∙ c .before .type-of .ensures))
+    sym (type-right _ _ _ is ours taken (c .if3 .left ∙ c .before .type-of .ensures))
 
 pub judge-version-spec : {M : Type 1} → statement M
 judge-version-spec =

@@ -8,7 +8,7 @@ use lib.ListN.{length, length-append}
 use Rattle.octets.specs.Octets.{bytes}
 use Rattle.octets.proofs.Numbers.{bytes-length}
 use Rattle.octets.proofs.Buffers.{goes-on}
-use Rattle.header_writing.specs.Written.{two, withLength, longFields}
+use Rattle.header_writing.specs.Written.{withLength, longFields}
 use Rattle.header_writing.proofs.write_long.Statement.{statement}
 use Rattle.header_writing.proofs.write_long.Tie as tie
 

@@ -3,11 +3,11 @@ use Prim.Native.Nat.{ℕ, _+_, _-_, _%_}
 use mathlib.Core.Path.{refl, sym, ap, _∙_}
 use borrow.Author.Needs.{needs}
 use native.Mathlib.Omega.{arith}
-use lib.Bits.{bitXor}
-use lib.ListN.{getD, take, replicate, length-take}
+use lib.ListN.{take, replicate, length-take}
 use lib.Seq.{length-take-le}
-use Rattle.packets.specs.Protection.{onFirst}
-use Rattle.packets.specs.KeyRecord.{keysOf}
+use Rattle.header_forms.specs.Answers.{formOf}
+use Rattle.protection.specs.Protection.{onFirst}
+use Rattle.protection.specs.KeyRecord.{keysOf}
 use Rattle.open_unmasking.proofs.Masking.{short-taken, unmasks}
 use Rattle.open_unmasking.proofs.unmask.Statement.{statement}
 use Rattle.open_unmasking.proofs.unmask.Tie as tie
@@ -21,13 +21,15 @@ read-short-requires c κs = simp length-take (omega (arith, c .before .before .c
 returns : tie.Need-returns
 unfolding onFirst
 returns c =
-    let m = c .before .before .before .before .before .before .before .before .before in
+    let f = c .before .before .before .before .before .before .before .before in
+    let m = f .before .before in
     let a = m .before .before .before .before .args in
     let d = a .datagram .now in
     let mask = m .mask-of .result in
-    let count : ℕ = bitXor (getD d 0 0) (getD mask 0 0 % 16) % 4 + 1 in
+    let count : ℕ = f .mask-first .result % 4 + 1 in
     let short = short-taken d mask (replicate 4 0) (a .place) (a .place + count - a .place) count (search needs) (omega arith) (omega arith) in
-    unmasks (keysOf (a .keys)) d mask _ (a .place) _ (omega arith) (m .mask-of .ensures) refl refl (ap (take count) (c .before .before .before .copy-masked .ensures) ∙ short) (c .read-short .ensures)
+    unmasks (formOf (a .form)) (keysOf (a .keys)) d mask _ (a .place) _ (omega arith) (m .mask-of .ensures) (f .mask-first .ensures) refl
+    (ap (take count) (c .before .before .before .copy-masked .ensures) ∙ short) (c .read-short .ensures)
 
 pub unmask-spec : {M : Type 1} → statement M
 unmask-spec =
@@ -36,6 +38,7 @@ unmask-spec =
     (λ c κs. search needs)
     (λ c. search needs)
     (λ c. search needs)
+    (λ c κs. search needs)
     (λ c. search needs)
     (λ c. search needs)
     (λ c. search needs)

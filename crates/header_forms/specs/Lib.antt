@@ -1,0 +1,4 @@
+pub mod Rules
+pub mod Forms
+pub mod Answers
+pub mod Boundaries

@@ -1,0 +1,91 @@
+-- A sealed packet is opened again, whatever stands behind it: its header is read back, and what was protected is found.
+use Prim.Native.Nat.{ℕ, _+_, _-_, _/_, _%_, _≤_}
+use mathlib.Core.Path.{_≡_, refl, sym, ap, _∙_}
+use mathlib.Core.List.{List, _∷_, _++_, append-assoc}
+use native.Mathlib.Omega.{arith}
+use lib.Dec.{eqb}
+use lib.ListN.{length, getD, take, length-append}
+use lib.Seq.{take-at}
+use borrow.Author.Tests.{eq-eqb}
+use Rattle.octets.specs.Outcome.{given}
+use Rattle.numbers.specs.Numbers.{numbers}
+use Rattle.numbers_recovery.specs.Recovery.{Near}
+use Rattle.versions.specs.Versions.{version}
+use Rattle.versions.proofs.Versions.{initial-fits}
+use Rattle.header_forms.specs.Rules.{Rules, Readable}
+use Rattle.header_forms.specs.Forms.{longForm, formed}
+use Rattle.header_forms.proofs.Forms.{formed-right}
+use Rattle.header_initial.specs.InitialHeader.{initials}
+use Rattle.header_writing.specs.Written.{Plain, firstByte, fields, lengthOf}
+use Rattle.header_writing.proofs.HeaderBack.{Written, numberAt, number-place, type-taken, header-read}
+use Rattle.protection.specs.Suite.{Suite, Laws}
+use Rattle.protection.specs.Protection.{Keys}
+use Rattle.protection.specs.Clear.{Clear, unprotected}
+use Rattle.protection.proofs.RoundTrip.{first-kept, hiddenFirst, fromNumber, protected-is, from-number-length, protected-length, unprotected-back}
+use Rattle.packets.specs.Packet.{clearOf, packetOf, opened}
+use Rattle.packets.specs.Effects.{whatWasSealed}
+use Rattle.packets.proofs.Sealing.{Sealed, well-made}
+use Rattle.packets.proofs.Opening.{open-protected}
+
+module _ (suite : Suite) (laws : Laws suite) (rules : Rules) (readable : Readable rules) (k : Keys) (p : Plain) (packet : List ℕ) (made : Sealed suite rules k p packet)
+    (behind d : List ℕ) (joined : d ≡ packet ++ behind) (fits : length d ≤ rules .limit) where
+  abbrev v : ℕ
+  v = k .version
+
+  abbrev clear : Clear
+  clear = clearOf rules v p
+
+  -- in the packet the first byte is masked, and so is all from the number on
+  abbrev first : ℕ
+  first = hiddenFirst suite laws longForm k clear
+
+  abbrev rest : List ℕ
+  rest = fromNumber suite laws longForm k clear ++ behind
+
+  is : d ≡ first ∷ fields rules v p ++ rest
+  is =
+      joined ∙ rw (made .is, protected-is suite laws longForm k clear)
+      (ap (λ (s : List ℕ). first ∷ s) (append-assoc (fields rules v p) (fromNumber suite laws longForm k clear) behind))
+
+  -- form, fixed bit and type, under any mask
+  first-form : first / 16 ≡ 12 + version v .initialType
+  unfolding firstByte
+  first-form = first-kept longForm _ (firstByte v p) ∙ omega (arith, made .plain .short)
+
+  size : length packet ≡ numberAt rules p + lengthOf p
+  size = omega (arith, number-place rules v p, protected-length suite laws longForm k clear, ap length (made .is))
+
+  long : formed rules longForm d ≡ given tt
+  long =
+      let byte : getD d 0 0 ≡ first = rw is in
+      let some = ap length is in
+      formed-right rules longForm d (omega arith) fits (omega (arith, first-form, initial-fits v))
+
+  written : Written rules (initials (λ w. eqb w v)) v first tt p d rest
+  written = record {
+    is = is;
+    fits = fits;
+    ours = made .ours;
+    taken = eq-eqb v v refl;
+    judges = type-taken (λ w. eqb w v) (λ row. row .initialType) v first first-form (initial-fits v);
+    short-destination = made .plain .short-destination;
+    short-source = made .plain .short-source;
+    enough = omega (arith, made .plain .enough);
+    all = omega (arith, length-append (fromNumber suite laws longForm k clear) behind, from-number-length suite laws longForm k clear);
+  }
+
+  opened-joined : (e room : ℕ) → e ≤ numbers → Near e (p .packetNumber) (p .numberLength) → length packet ≤ room + 16
+      → opened suite rules k e d room ≡ given (whatWasSealed rules k p packet)
+  opened-joined e room fair near enough =
+      let read = sym (header-read rules readable (initials (λ w. eqb w v)) v first tt p d rest written) in
+      let taken : take (numberAt rules p + lengthOf p) d ≡ packetOf suite rules k p
+      = rw joined (take-at packet behind (numberAt rules p + lengthOf p) size) ∙ made .is in
+      open-protected suite rules k e d room fair (made .ours) (sym long) read (omega (arith, size))
+      ∙ rw (taken, number-place rules v p, made .is) (unprotected-back suite laws longForm k clear (well-made suite rules k p packet made) e near)
+
+-- the packet that the rules seal is opened whole by a receiver that expects a number near its own
+pub opened-back : (suite : Suite) → Laws suite → (rules : Rules) → Readable rules → (k : Keys) (p : Plain) (packet : List ℕ) → Sealed suite rules k p packet
+    → (behind : List ℕ) → length (packet ++ behind) ≤ rules .limit
+    → (e room : ℕ) → e ≤ numbers → Near e (p .packetNumber) (p .numberLength) → length packet ≤ room + 16
+    → opened suite rules k e (packet ++ behind) room ≡ given (whatWasSealed rules k p packet)
+opened-back suite laws rules readable k p packet made behind fits = opened-joined suite laws rules readable k p packet made behind (packet ++ behind) refl fits

@@ -1,6 +1,0 @@
--- The code's key record as the keys it stands for.
-use Rattle.packets.specs.Protection.{Keys}
-use Rattle.packets.specs.declared.Keys as Code
-
-abbrev pub keysOf : Code.Keys → Keys
-keysOf k = record { version = k .version; key = k .key; iv = k .iv; hp = k .hp }
