@@ -6,9 +6,10 @@ use Rattle.octets.specs.Outcome.{Outcome, refused, given}
 use Rattle.protection.specs.Protection.{Keys}
 use Rattle.protection.specs.Clear.{Opened}
 use Rattle.open_writing.specs.declared.Opened as Code
-use Rattle.open.specs.Opening.{Report, reportOf, reported, openingAnswer, Open}
-use Rattle.open.specs.declared.Opening.{Opening}
-use Rattle.open.specs.declared.Opening.the-variants as Opening
+use Rattle.open_decrypting.specs.Decrypting.{Report, reportOf, reported, openingAnswer}
+use Rattle.open_decrypting.specs.declared.Opening.{Opening}
+use Rattle.open_decrypting.specs.declared.Opening.the-variants as Opening
+use Rattle.open.specs.Opening.{Open}
 use Rattle.c_forms.specs.Promises.{Answers}
 use Rattle.c_forms.proofs.Answering.{refusing, giving}
 use Rattle.c_key_record.specs.Layout.{keysIn}

@@ -1,10 +1,6 @@
 -- The rules' form of Length is read back.
 use native.Mathlib.Omega.{arith}
 use lib.Dec.{lit<}
-use mathlib.Core.Path.{_∙_, ap}
-use Prim.Native.Nat.{ℕ}
-use Rattle.octets.specs.Outcome.{given}
-use Rattle.integers.specs.Integer.{Integer}
 use Rattle.integers_writing.proofs.Forms.{two-bytes}
 use Rattle.integers_writing.proofs.IntegersBack.{two-back}
 use Rattle.header_forms.specs.Rules.{inForce, Readable}

@@ -5,7 +5,7 @@ use mathlib.Core.Bool.{true}
 use mathlib.Core.List.{List}
 use native.Mathlib.Omega.{arith}
 use lib.Dec.{eqb}
-use Rattle.octets.specs.Outcome.{refused, given}
+use Rattle.octets.specs.Outcome.{given}
 use Rattle.numbers.specs.Numbers.{numbers}
 use Rattle.versions.specs.Versions.{known}
 use Rattle.header_forms.specs.Rules.{inForce}
@@ -16,7 +16,6 @@ use Rattle.header_initial.specs.InitialHeader.{Header, header, initials}
 use Rattle.header_initial.proofs.InitialHeaders.{header-there}
 use Rattle.protection.specs.Protection.{Keys}
 use Rattle.protection.specs.AesGcm.{aesGcm}
-use Rattle.packets.specs.Packet.{opened}
 use Rattle.packets.proofs.Opening.{open-protected}
 use Rattle.open_revealing.specs.Revealing.{Placed, Reveals}
 use Rattle.open_revealing.specs.declared.Finding.{Finding}

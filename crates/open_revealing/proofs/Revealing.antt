@@ -1,9 +1,8 @@
 -- What is left once the mask is taken off: the reserved bits, the number's range, and then the tag alone.
-use Prim.Native.Nat.{ℕ}
+use Prim.Native.Nat.{ℕ, _+_}
 use mathlib.Core.Path.{_≡_, refl, sym, ap, _∙_}
 use mathlib.Core.List.{List}
 use lib.ListN.{take}
-use Prim.Native.Nat.{_+_}
 use Rattle.octets.specs.Outcome.{refused, given}
 use Rattle.octets.specs.Octets.{bytes, number as spells}
 use Rattle.octets.proofs.Numbers.{byte-power, number-back}

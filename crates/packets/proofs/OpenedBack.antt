@@ -1,5 +1,5 @@
 -- A sealed packet is opened again, whatever stands behind it: its header is read back, and what was protected is found.
-use Prim.Native.Nat.{ℕ, _+_, _-_, _/_, _%_, _≤_}
+use Prim.Native.Nat.{ℕ, _+_, _/_, _≤_}
 use mathlib.Core.Path.{_≡_, refl, sym, ap, _∙_}
 use mathlib.Core.List.{List, _∷_, _++_, append-assoc}
 use native.Mathlib.Omega.{arith}
@@ -20,7 +20,7 @@ use Rattle.header_writing.specs.Written.{Plain, firstByte, fields, lengthOf}
 use Rattle.header_writing.proofs.HeaderBack.{Written, numberAt, number-place, type-taken, header-read}
 use Rattle.protection.specs.Suite.{Suite, Laws}
 use Rattle.protection.specs.Protection.{Keys}
-use Rattle.protection.specs.Clear.{Clear, unprotected}
+use Rattle.protection.specs.Clear.{Clear}
 use Rattle.protection.proofs.RoundTrip.{first-kept, hiddenFirst, fromNumber, protected-is, from-number-length, protected-length, unprotected-back}
 use Rattle.packets.specs.Packet.{clearOf, packetOf, opened}
 use Rattle.packets.specs.Effects.{whatWasSealed}

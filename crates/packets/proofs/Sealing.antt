@@ -1,6 +1,6 @@
 -- Sealing: what it comes to by what the tests show, in their order; how long a packet is; and what is known of one because the rules sealed it.
 use Prim.Native.Nat.{ℕ, _+_, _≤_, _<_}
-use mathlib.Core.Path.{_≡_, sym, _∙_}
+use mathlib.Core.Path.{_≡_, sym}
 use mathlib.Core.List.{List}
 use mathlib.Core.Bool.{true, false, _&&_}
 use native.Mathlib.Omega.{arith}

@@ -1,7 +1,7 @@
 -- What was protected is found again, once for every form of header and every suite: the mask comes off, the parts stand where they were put, the number is
 -- recovered, the tag matches, the stream undoes itself.
 use Prim.Native.Nat.{ℕ, _+_, _-_, _/_, _%_, _^_, _≤_, _<_}
-use mathlib.Core.Path.{_≡_, refl, sym, ap, _∙_}
+use mathlib.Core.Path.{_≡_, sym, ap, _∙_}
 use mathlib.Core.List.{List, _∷_, _++_, append-assoc}
 use native.Mathlib.Nat.{mod-lt, div-eq-of-lt}
 use native.Mathlib.Omega.{arith}

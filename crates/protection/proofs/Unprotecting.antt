@@ -1,6 +1,6 @@
 -- What lies under the protection, by what the tests show, in their order: over what is computed from a datagram whose packet has its number at a place
 -- and len bytes from there on.
-use Prim.Native.Nat.{ℕ, _+_, _-_, _%_, _≤_, _<_}
+use Prim.Native.Nat.{ℕ, _+_, _-_, _≤_, _<_}
 use mathlib.Core.Path.{_≡_, refl, sym, ap, _∙_}
 use mathlib.Core.List.{List}
 use mathlib.Core.Bool.{Bool, true, false}

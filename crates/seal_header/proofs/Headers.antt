@@ -1,5 +1,5 @@
 -- Where the fields before the number end, and the plain header by what is written of it.
-use Prim.Native.Nat.{ℕ, suc, _+_}
+use Prim.Native.Nat.{ℕ, suc}
 use mathlib.Core.Path.{_≡_, subst}
 use mathlib.Core.List.{List, _∷_}
 use native.Mathlib.Omega.{arith}

@@ -1,1 +1,2 @@
 pub mod Protecting
+pub mod OneAnswer

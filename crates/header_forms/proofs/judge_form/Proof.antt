@@ -1,7 +1,6 @@
 -- Each answer is one law.
 use mathlib.Core.Path.{sym, _∙_}
 use borrow.Author.Needs.{needs}
-use native.Mathlib.Omega.{arith}
 use Rattle.header_forms.proofs.Forms.{formed-empty, formed-large, formed-other, formed-right}
 use Rattle.header_forms.proofs.judge_form.Statement.{statement}
 use Rattle.header_forms.proofs.judge_form.Tie as tie

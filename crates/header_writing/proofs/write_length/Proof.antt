@@ -1,5 +1,4 @@
 -- No Length within the limit is over two bytes.
-use mathlib.Core.Path.{_∙_}
 use borrow.Author.Needs.{needs}
 use native.Mathlib.Omega.{arith}
 use Rattle.integers_writing.proofs.Forms.{two-bytes}

@@ -1,5 +1,4 @@
 -- The plain header, and then the packet protected behind it and over it.
-use mathlib.Core.List.{List}
 use borrow.Author.Needs.{needs}
 use Rattle.header_forms.specs.Rules.{inForce}
 use Rattle.header_writing.specs.Written.{Plain, firstByte, fields}

@@ -1,8 +1,7 @@
 -- The body behind the header and the mask over both are the packet.
-use Prim.Native.Nat.{_+_}
 use mathlib.Core.Path.{ap, _∙_}
 use mathlib.Core.List.{List}
-use Prim.Native.Nat.{ℕ}
+use Prim.Native.Nat.{ℕ, _+_}
 use borrow.Author.Needs.{needs}
 use lib.ListN.{take}
 use Rattle.octets.specs.Octets.{laid}

@@ -1,8 +1,8 @@
 -- The larger of the two, by the test.
 use borrow.Author.Needs.{needs}
 use native.Mathlib.Omega.{arith}
-use Rattle.open.proofs.expected_after.Statement.{statement}
-use Rattle.open.proofs.expected_after.Tie as tie
+use Rattle.open_decrypting.proofs.expected_after.Statement.{statement}
+use Rattle.open_decrypting.proofs.expected_after.Tie as tie
 
 returns : tie.Need-returns
 returns c = omega arith

@@ -2,9 +2,9 @@
 use borrow.Author.Needs.{needs}
 use borrow.Author.Tests.{not-true, not-false}
 use Rattle.protection.specs.KeyRecord.{keysOf}
-use Rattle.open.proofs.Answers.{tag-refused, decrypts}
-use Rattle.open.proofs.decrypt.Statement.{statement}
-use Rattle.open.proofs.decrypt.Tie as tie
+use Rattle.open_decrypting.proofs.Answers.{tag-refused, decrypts}
+use Rattle.open_decrypting.proofs.decrypt.Statement.{statement}
+use Rattle.open_decrypting.proofs.decrypt.Tie as tie
 
 returns : tie.Need-returns
 returns c =
