@@ -55,7 +55,7 @@ extern "C" {
 /* The version of this library. */
 #define DW_LIBRARY_VERSION_MAJOR 0
 #define DW_LIBRARY_VERSION_MINOR 3
-#define DW_LIBRARY_VERSION_PATCH 0
+#define DW_LIBRARY_VERSION_PATCH 1
 
 /* The versions of QUIC. */
 #define DW_VERSION_1 0x00000001u /* RFC 9000 */

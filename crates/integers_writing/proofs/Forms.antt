@@ -12,7 +12,7 @@ use Rattle.integers_writing.specs.Written.{smallest, two}
 
 pub two-bytes : (n : ℕ) → length (two n) ≡ 2
 unfolding two
-two-bytes n = bytes-length 2 (2 ^ 14 + n)
+two-bytes n = bytes-length 2 _
 
 module _ (n : ℕ) where
   pub smallest-one : n < 2 ^ 6 → smallest n ≡ bytes 1 n
