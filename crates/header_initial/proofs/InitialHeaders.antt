@@ -66,15 +66,6 @@ header-there judge d is =
     })
 
 -- ---- of a whole datagram
-module _ (rules : Rules) (d : List ℕ) where
-  pub any-not-formed : {n : ℕ} → refused n ≡ formed rules longForm d → anyHeader rules d ≡ refused n
-  unfolding anyHeader
-  any-not-formed e = rw (← e)
-
-  pub any-formed : given tt ≡ formed rules longForm d → anyHeader rules d ≡ header (initials (λ v. true)) d
-  unfolding anyHeader
-  any-formed e = rw (← e)
-
 pub any-there : (rules : Rules) (d : List ℕ) {h : Header} → given h ≡ anyHeader rules d → HeaderThere (λ v. true) d h
 unfolding anyHeader
 any-there rules d is =

@@ -37,15 +37,15 @@ module _ (suite : Suite) (laws : Laws suite) (rules : Rules) (readable : Readabl
 
   -- in the packet the first byte is masked, and so is all from the number on
   abbrev first : ℕ
-  first = hiddenFirst suite laws longForm k clear
+  first = hiddenFirst suite k clear longForm
 
   abbrev rest : List ℕ
-  rest = fromNumber suite laws longForm k clear ++ behind
+  rest = fromNumber suite k clear ++ behind
 
   is : d ≡ first ∷ fields rules v p ++ rest
   is =
-      joined ∙ rw (made .is, protected-is suite laws longForm k clear)
-      (ap (λ (s : List ℕ). first ∷ s) (append-assoc (fields rules v p) (fromNumber suite laws longForm k clear) behind))
+      joined ∙ rw (made .is, protected-is suite k clear longForm)
+      (ap (λ (s : List ℕ). first ∷ s) (append-assoc (fields rules v p) (fromNumber suite k clear) behind))
 
   -- form, fixed bit and type, under any mask
   first-form : first / 16 ≡ 12 + version v .initialType
@@ -53,7 +53,7 @@ module _ (suite : Suite) (laws : Laws suite) (rules : Rules) (readable : Readabl
   first-form = first-kept longForm _ (firstByte v p) ∙ omega (arith, made .plain .short)
 
   size : length packet ≡ numberAt rules p + lengthOf p
-  size = omega (arith, number-place rules v p, protected-length suite laws longForm k clear, ap length (made .is))
+  size = omega (arith, number-place rules v p, protected-length suite k clear longForm laws, ap length (made .is))
 
   long : formed rules longForm d ≡ given tt
   long =
@@ -71,7 +71,7 @@ module _ (suite : Suite) (laws : Laws suite) (rules : Rules) (readable : Readabl
     short-destination = made .plain .short-destination;
     short-source = made .plain .short-source;
     enough = omega (arith, made .plain .enough);
-    all = omega (arith, length-append (fromNumber suite laws longForm k clear) behind, from-number-length suite laws longForm k clear);
+    all = omega (arith, length-append (fromNumber suite k clear) behind, from-number-length suite k clear laws);
   }
 
   opened-joined : (e room : ℕ) → e ≤ numbers → Near e (p .packetNumber) (p .numberLength) → length packet ≤ room + 16
@@ -81,7 +81,7 @@ module _ (suite : Suite) (laws : Laws suite) (rules : Rules) (readable : Readabl
       let taken : take (numberAt rules p + lengthOf p) d ≡ packetOf suite rules k p
       = rw joined (take-at packet behind (numberAt rules p + lengthOf p) size) ∙ made .is in
       open-protected suite rules k e d room fair (made .ours) (sym long) read (omega (arith, size))
-      ∙ rw (taken, number-place rules v p, made .is) (unprotected-back suite laws longForm k clear (well-made suite rules k p packet made) e near)
+      ∙ rw (taken, number-place rules v p, made .is) (unprotected-back suite k clear longForm laws (well-made suite rules k p packet made) e near)
 
 -- the packet that the rules seal is opened whole by a receiver that expects a number near its own
 pub opened-back : (suite : Suite) → Laws suite → (rules : Rules) → Readable rules → (k : Keys) (p : Plain) (packet : List ℕ) → Sealed suite rules k p packet

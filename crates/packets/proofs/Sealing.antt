@@ -81,7 +81,7 @@ pub packet-size : (suite : Suite) (rules : Rules) (k : Keys) (p : Plain) → Law
 packet-size suite rules k p laws =
     omega (
       arith,
-      protected-length suite laws longForm k (clearOf rules (k .version) p),
+      protected-length suite k (clearOf rules (k .version) p) longForm laws,
       initial-length rules (k .version) (p .destination) (p .source) (p .token) (lengthOf p),
     )
 

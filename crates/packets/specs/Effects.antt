@@ -13,9 +13,12 @@ abbrev pub whatWasSealed : Rules → Keys → Plain → (packet : List ℕ) → 
 whatWasSealed rules k p packet = whatWasProtected (clearOf rules (k .version) p) packet
 
 -- plain header, then payload
+abbrev pub written : Opened → List ℕ
+written o = o .plain ++ o .payload
+
 abbrev pub output : Outcome Opened → Outcome (List ℕ)
 output (refused n) = refused n
-output (given o) = given (o .plain ++ o .payload)
+output (given o) = given (written o)
 
 -- the larger of what was expected and one above the opened number; refused, as it was
 abbrev pub after : (expected : ℕ) → Outcome Opened → ℕ

@@ -71,8 +71,8 @@ short-length c = bytes-length (c .numberLength) (c .packetNumber)
 pub plain-length : (c : Clear) → length (plainHeader c) ≡ numberAt c + c .numberLength
 plain-length c = omega (arith, length-append (c .fields) (bytes (c .numberLength) (c .packetNumber)), short-length c)
 
-module _ (suite : Suite) (laws : Laws suite) (form : Form) (k : Keys) (c : Clear) where
-  -- ---- what it is made of
+-- ---- what its packet is made of
+module _ (suite : Suite) (k : Keys) (c : Clear) where
   abbrev once : List ℕ
   once = nonce (k .iv) (c .packetNumber)
 
@@ -88,103 +88,107 @@ module _ (suite : Suite) (laws : Laws suite) (form : Form) (k : Keys) (c : Clear
   abbrev mask : List ℕ
   mask = maskOf suite (k .hp) (plainHeader c ++ (cipher ++ tag)) (numberAt c)
 
-  -- the masked first byte and number
-  abbrev pub hiddenFirst : ℕ
-  hiddenFirst = onFirst form mask (c .first)
-
+  -- the number under the mask
   abbrev hidden : List ℕ
   hidden = onNumber mask short
 
   hidden-length : length hidden ≡ c .numberLength
   hidden-length = masked-length mask short ∙ short-length c
 
-  cipher-length : length cipher ≡ length (c .payload)
-  cipher-length = laws .stream-length (k .key) once (c .payload)
-
-  tag-length : length tag ≡ 16
-  tag-length = laws .tag-length (k .key) once (plainHeader c) cipher
-
-  pub body-length : length (bodyOf suite k c) ≡ length (c .payload) + 16
-  unfolding bodyOf bodyWith
-  body-length = omega (arith, length-append cipher tag, cipher-length, tag-length)
-
-  -- the fields stand in the packet as they were; from the number on it is sealed
+  -- from the number on it is sealed
   abbrev pub fromNumber : List ℕ
   fromNumber = hidden ++ (cipher ++ tag)
 
-  pub protected-is : protected suite form k c ≡ hiddenFirst ∷ c .fields ++ fromNumber
-  unfolding protected bodyOf bodyWith
-  protected-is = ap (λ (s : List ℕ). hiddenFirst ∷ s) (append-assoc (c .fields) hidden (cipher ++ tag))
+  module _ (laws : Laws suite) where
+    cipher-length : length cipher ≡ length (c .payload)
+    cipher-length = laws .stream-length (k .key) once (c .payload)
 
-  pub from-number-length : length fromNumber ≡ lengthFrom c
-  from-number-length =
-      omega (arith, length-append hidden (cipher ++ tag), length-append cipher tag, hidden-length, cipher-length, tag-length)
+    tag-length : length tag ≡ 16
+    tag-length = laws .tag-length (k .key) once (plainHeader c) cipher
 
-  pub protected-length : length (protected suite form k c) ≡ numberAt c + lengthFrom c
-  protected-length = ap length protected-is ∙ omega (arith, length-append (c .fields) fromNumber, from-number-length)
+    pub body-length : length (bodyOf suite k c) ≡ length (c .payload) + 16
+    unfolding bodyOf bodyWith
+    body-length = omega (arith, length-append cipher tag, cipher-length, tag-length)
 
-  -- ---- and found again
-  module _ (made : WellMade form c) (packet : List ℕ) (is : packet ≡ hiddenFirst ∷ c .fields ++ fromNumber) where
-    abbrev at : ℕ
-    at = numberAt c
+    pub from-number-length : length fromNumber ≡ lengthFrom c
+    from-number-length =
+        omega (arith, length-append hidden (cipher ++ tag), length-append cipher tag, hidden-length, cipher-length, tag-length)
 
-    whole : length packet ≡ at + lengthFrom c
-    whole = ap length is ∙ omega (arith, length-append (c .fields) fromNumber, from-number-length)
+  module _ (form : Form) where
+    -- the first byte under the mask; behind it the fields stand as they were
+    abbrev pub hiddenFirst : ℕ
+    hiddenFirst = onFirst form mask (c .first)
 
-    at-hidden : At packet at fromNumber
-    at-hidden =
-        begins packet at fromNumber (omega (arith, whole)) (rw is (drop-at (hiddenFirst ∷ c .fields) fromNumber at (omega arith)))
+    pub protected-is : protected suite form k c ≡ hiddenFirst ∷ c .fields ++ fromNumber
+    unfolding protected bodyOf bodyWith
+    protected-is = ap (λ (s : List ℕ). hiddenFirst ∷ s) (append-assoc (c .fields) hidden (cipher ++ tag))
 
-    at-cipher : At packet (at + c .numberLength) (cipher ++ tag)
-    at-cipher = past packet at (at + c .numberLength) hidden (cipher ++ tag) at-hidden (rw hidden-length)
+    module _ (laws : Laws suite) where
+      pub protected-length : length (protected suite form k c) ≡ numberAt c + lengthFrom c
+      protected-length = ap length protected-is ∙ omega (arith, length-append (c .fields) fromNumber, from-number-length laws)
 
-    at-tag : At packet (at + lengthFrom c - 16) tag
-    at-tag = past packet (at + c .numberLength) (at + lengthFrom c - 16) cipher tag at-cipher (omega (arith, cipher-length))
+      -- ---- and found again
+      module _ (made : WellMade form c) (packet : List ℕ) (is : packet ≡ hiddenFirst ∷ c .fields ++ fromNumber) where
+        abbrev at : ℕ
+        at = numberAt c
 
-    -- the mask leaves the sample as it was
-    sample-back : sampleOf (plainHeader c ++ (cipher ++ tag)) at ≡ sampleOf packet at
-    sample-back =
-        let n = c .numberLength in
-        sample-behind (plainHeader c ++ (cipher ++ tag)) at n (cipher ++ tag) (made .short)
-        (drop-at (plainHeader c) (cipher ++ tag) (at + n) (plain-length c))
-        ∙ sym (sample-behind packet at n (cipher ++ tag) (made .short) (at-cipher .there))
+        whole : length packet ≡ at + lengthFrom c
+        whole = ap length is ∙ omega (arith, length-append (c .fields) fromNumber, from-number-length laws)
 
-    unmasked : Unmasked suite form k packet at mask (c .first) (c .numberLength) short
-    unmasked = record {
-      its-mask = ap (suite .mask (k .hp)) sample-back;
-      its-first = sym (ap (onFirst form mask) (rw is) ∙ first-back form mask (c .first));
-      its-length = made .tells-length;
-      its-number =
-          sym (ap (onNumber mask) (part-at packet at (c .numberLength) hidden (cipher ++ tag) at-hidden hidden-length) ∙ number-back mask short);
-    }
+        at-hidden : At packet at fromNumber
+        at-hidden =
+            begins packet at fromNumber (omega (arith, whole)) (rw is (drop-at (hiddenFirst ∷ c .fields) fromNumber at (omega arith)))
 
-    -- the parts that the tag and the stream are taken of
-    plain-back : plainIn packet at (c .first) short ≡ plainHeader c
-    plain-back =
-        let inner : at - 1 ≡ length (c .fields) = omega arith in
-        rw (inner, is, take-append-seam (c .fields) fromNumber)
+        at-cipher : At packet (at + c .numberLength) (cipher ++ tag)
+        at-cipher = past packet at (at + c .numberLength) hidden (cipher ++ tag) at-hidden (rw hidden-length)
 
-    cipher-back : cipherIn packet at (lengthFrom c) (c .numberLength) ≡ cipher
-    cipher-back =
-        part-at packet (at + c .numberLength) (lengthFrom c - c .numberLength - 16) cipher tag at-cipher (omega (arith, cipher-length))
+        at-tag : At packet (at + lengthFrom c - 16) tag
+        at-tag = past packet (at + c .numberLength) (at + lengthFrom c - 16) cipher tag at-cipher (omega (arith, cipher-length laws))
 
-    tag-back : tagIn packet at (lengthFrom c) ≡ tag
-    tag-back = ap (take 16) (at-tag .there) ∙ take-all 16 tag (omega (arith, tag-length))
+        -- the mask leaves the sample as it was
+        sample-back : sampleOf (plainHeader c ++ (cipher ++ tag)) at ≡ sampleOf packet at
+        sample-back =
+            let n = c .numberLength in
+            sample-behind (plainHeader c ++ (cipher ++ tag)) at n (cipher ++ tag) (made .short)
+            (drop-at (plainHeader c) (cipher ++ tag) (at + n) (plain-length c))
+            ∙ sym (sample-behind packet at n (cipher ++ tag) (made .short) (at-cipher .there))
 
-    number-again : (e : ℕ) → Near e (c .packetNumber) (c .numberLength) → c .packetNumber ≡ decoded e (number short) (c .numberLength)
-    number-again e near =
-        sym (rw (number-bytes (c .numberLength) (c .packetNumber), byte-power (c .numberLength))
-        (recovery e (c .packetNumber) (c .numberLength) (made .positive) near (made .small)))
+        unmasked : Unmasked suite form k packet at mask (c .first) (c .numberLength) short
+        unmasked = record {
+          its-mask = ap (suite .mask (k .hp)) sample-back;
+          its-first = sym (ap (onFirst form mask) (rw is) ∙ first-back form mask (c .first));
+          its-length = made .tells-length;
+          its-number =
+              sym (ap (onNumber mask) (part-at packet at (c .numberLength) hidden (cipher ++ tag) at-hidden hidden-length) ∙ number-back mask short);
+        }
 
-    found-again : (e : ℕ) → Near e (c .packetNumber) (c .numberLength) → unprotected suite form k e packet at ≡ given (whatWasProtected c packet)
-    found-again e near =
-        let tagged : tag ≡ suite .tag (k .key) once (plainIn packet at (c .first) short) (cipherIn packet at (lengthFrom c) (c .numberLength))
-        = rw (plain-back, cipher-back) in
-        ap (λ (s : List ℕ). unprotected suite form k e s at) (sym (take-all (at + lengthFrom c) packet (omega (arith, whole))))
-        ∙ unprotect-given e unmasked (lengthFrom c) (omega arith) (omega (arith, made .enough)) (omega (arith, whole)) (made .clear-bits)
-        (number-again e near) (made .small) tagged (equal-same (tagIn packet at (lengthFrom c)) tag tag-back)
-        ∙ rw (plain-back, cipher-back, laws .stream-twice (k .key) once (c .payload), whole)
+        -- the parts that the tag and the stream are taken of
+        plain-back : plainIn packet at (c .first) short ≡ plainHeader c
+        plain-back =
+            let inner : at - 1 ≡ length (c .fields) = omega arith in
+            rw (inner, is, take-append-seam (c .fields) fromNumber)
 
-  pub unprotected-back : WellMade form c → (e : ℕ) → Near e (c .packetNumber) (c .numberLength)
-      → unprotected suite form k e (protected suite form k c) (numberAt c) ≡ given (whatWasProtected c (protected suite form k c))
-  unprotected-back made = found-again made (protected suite form k c) protected-is
+        cipher-back : cipherIn packet at (lengthFrom c) (c .numberLength) ≡ cipher
+        cipher-back =
+            part-at packet (at + c .numberLength) (lengthFrom c - c .numberLength - 16) cipher tag at-cipher (omega (arith, cipher-length laws))
+
+        tag-back : tagIn packet at (lengthFrom c) ≡ tag
+        tag-back = ap (take 16) (at-tag .there) ∙ take-all 16 tag (omega (arith, tag-length laws))
+
+        number-again : (e : ℕ) → Near e (c .packetNumber) (c .numberLength) → c .packetNumber ≡ decoded e (number short) (c .numberLength)
+        number-again e near =
+            sym (rw (number-bytes (c .numberLength) (c .packetNumber), byte-power (c .numberLength))
+            (recovery e (c .packetNumber) (c .numberLength) (made .positive) near (made .small)))
+
+        found-again : (e : ℕ) → Near e (c .packetNumber) (c .numberLength) → unprotected suite form k e packet at ≡ given (whatWasProtected c packet)
+        found-again e near =
+            let tagged : tag ≡ suite .tag (k .key) once (plainIn packet at (c .first) short) (cipherIn packet at (lengthFrom c) (c .numberLength))
+            = rw (plain-back, cipher-back) in
+            ap (λ (s : List ℕ). unprotected suite form k e s at) (sym (take-all (at + lengthFrom c) packet (omega (arith, whole))))
+            ∙ unprotect-given e unmasked (lengthFrom c) (omega arith) (omega (arith, made .enough)) (omega (arith, whole)) (made .clear-bits)
+            (number-again e near) (made .small) tagged (equal-same (tagIn packet at (lengthFrom c)) tag tag-back)
+            ∙ rw (plain-back, cipher-back, laws .stream-twice (k .key) once (c .payload), whole)
+
+      pub unprotected-back : WellMade form c → (e : ℕ) → Near e (c .packetNumber) (c .numberLength)
+          → unprotected suite form k e (protected suite form k c) (numberAt c) ≡ given (whatWasProtected c (protected suite form k c))
+      unprotected-back made = found-again made (protected suite form k c) protected-is

@@ -20,7 +20,7 @@ use Rattle.protection.specs.Suite.{Suite, Laws}
 use Rattle.protection.specs.Protection.{Keys}
 use Rattle.protection.specs.Clear.{Opened}
 use Rattle.packets.specs.Packet.{sealed, opened}
-use Rattle.packets.specs.Effects.{output, after, whatWasSealed}
+use Rattle.packets.specs.Effects.{written, output, after, whatWasSealed}
 
 -- ---- the receiver
 -- a datagram as it comes, and the buffer lent for it
@@ -38,7 +38,7 @@ effects = record {
   numberOf = λ x. x .packetNumber;
   moved = λ keys a x. keys;
   lent = λ a. a .buffer;
-  written = λ x. x .plain ++ x .payload;
+  written = written;
 }
 
 -- it holds the keys, and expects e

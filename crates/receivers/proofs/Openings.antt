@@ -4,7 +4,7 @@ use mathlib.Core.Path.{_≡_, refl, sym, ap, _∙_}
 use mathlib.Core.Bool.{true}
 use native.Mathlib.Omega.{arith}
 use Rattle.octets.specs.Outcome.{Outcome, refused, given, _>>=_, _>>_}
-use Rattle.octets.proofs.Outcome.{apart, given-same, stepped}
+use Rattle.octets.proofs.Outcome.{given-same, stepped, followed}
 use Rattle.receivers.specs.Receivers.{Keeps, Demand3}
 use Rattle.receivers.specs.Openings.{Numbering, Counts, expectedOnly, Opening, Standing, standingAfter, yielded, outcome, receiver, WhateverArrives, Sending, promise, isRefused, FairAs, terms, Lawful}
 use Rattle.receivers.proofs.Receivers.{received}
@@ -28,10 +28,6 @@ pub outcome-alone : {Holding Arrival Opened : Type 0} (o : Opening Holding Arriv
 outcome-alone o s a = nothing-judged (o .opened (s .holding) (s .kept) a)
 
 -- ---- whatever arrives
-both-given : {A : Type 0} (j : Outcome (Unit {0})) (r : Outcome A) {x : A} → (j >> r) ≡ given x → (j ≡ given tt) × (r ≡ given x)
-both-given (refused why) r h = absurd (apart h)
-both-given (given tt) r h = (refl, h)
-
 module _ {Holding Kept Arrival Opened : Type 0} (o : Opening Holding Arrival Opened) (n : Numbering Kept Arrival)
     (s : Standing Holding Kept) (a : Arrival) where
   passed-both : (x : Opened) → outcome o n s a ≡ given x
@@ -39,9 +35,9 @@ module _ {Holding Kept Arrival Opened : Type 0} (o : Opening Holding Arrival Ope
   passed-both x h =
       let judged : Opened → Outcome (Unit {0}) = λ y. n .judge (s .kept) a (o .effects .numberOf y) in
       let first = stepped (o .opened (s .holding) (n .expectedBy (s .kept) a) a) (λ y. judged y >> given y) h in
-      let second = both-given (judged (first .0)) (given (first .0)) (first .2) in
-      let same : first .0 ≡ x = given-same (second .1) in
-      (first .1 ∙ ap given same, sym (ap judged same) ∙ second .0)
+      let second = followed (judged (first .0)) (given (first .0)) (first .2) in
+      let same : first .0 ≡ x = given-same (second .2) in
+      (first .1 ∙ ap given same, sym (ap judged same) ∙ second .1)
 
   pub whatever-arrives : WhateverArrives o n s a
   whatever-arrives = record {

@@ -49,15 +49,6 @@ token-there d at is =
     rw (← (given-same (some .1))) (record { after = omega arith; end = omega arith })
 
 -- ---- what a Retry begins with
-module _ (rules : Rules) (d : List ℕ) where
-  pub header-not-formed : {n : ℕ} → refused n ≡ formed rules longForm d → retryHeader rules d ≡ refused n
-  unfolding retryHeader
-  header-not-formed e = rw (← e)
-
-  pub header-formed : given tt ≡ formed rules longForm d → retryHeader rules d ≡ long retries d
-  unfolding retryHeader
-  header-formed e = rw (← e)
-
 pub record HeaderThere (rules : Rules) (d : List ℕ) (l : Long (Unit {0})) : Type 0 where
   pub fits : length d ≤ rules .limit
   pub long : LongThere (λ v. true) d l

@@ -7,10 +7,12 @@ use native.Mathlib.Omega.{arith}
 use lib.ListN.{length, getD, take, drop, length-append}
 use lib.Seq.{take-at, drop-at}
 use Rattle.octets.specs.Outcome.{given}
+use Rattle.octets.proofs.Outcome.{given-first}
 use Rattle.versions.specs.Versions.{version}
 use Rattle.header_forms.specs.Rules.{Rules}
 use Rattle.header_forms.specs.Forms.{longForm, formed}
 use Rattle.header_forms.proofs.Forms.{formed-right}
+use Rattle.header_long.specs.LongHeader.{long}
 use Rattle.header_fields.specs.Fields.{tagLength}
 use Rattle.header_fields.specs.Answers.{handed}
 use Rattle.header_writing.specs.Written.{longFirst, longFields}
@@ -26,7 +28,7 @@ use Rattle.retry_writing.specs.Written.{untagged, retryWritten}
 use Rattle.retry_writing.proofs.Packets.{untagged-length}
 use Rattle.retry_writing.proofs.Refusals.{RetryMade, retry-made}
 use Rattle.retry_checking.specs.Retry.{RetryFields, tokenAt, retries, retryHeader, retryChecked}
-use Rattle.retry_checking.proofs.Refusals.{header-formed, token-found, check-given}
+use Rattle.retry_checking.proofs.Refusals.{token-found, check-given}
 
 -- where the parts stand
 abbrev pub retryPlaces : (v : ℕ) (destination source token : List ℕ) → RetryFields
@@ -72,8 +74,9 @@ module _ (rules : Rules) (v : ℕ) (original destination source token : List ℕ
       formed-right rules longForm packet (omega arith) (made .fits) (omega (arith, form, retry-fits v))
 
   long-back : retryHeader rules packet ≡ given (longPlaces v tt destination source)
+  unfolding retryHeader
   long-back =
-      header-formed rules packet (sym is-formed)
+      given-first (long retries packet) (sym is-formed)
       ∙ long-read retries v first tt destination source packet (token ++ after) (record {
         is = is-long;
         ours = made .ours;

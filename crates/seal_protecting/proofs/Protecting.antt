@@ -43,7 +43,7 @@ module _ (form : Form) (k : Keys) (c : Clear) where
   short = bytes (c .numberLength) (c .packetNumber)
 
   size : length body ≡ length (c .payload) + 16
-  size = body-length aesGcm aes-gcm-laws form k c
+  size = body-length aesGcm k c aes-gcm-laws
 
   -- plain header and body, before the mask
   body-behind : (out one two : List ℕ) (place : ℕ) → place ≡ numberAt c → one ≡ begun header out
@@ -78,7 +78,7 @@ module _ (form : Form) (k : Keys) (c : Clear) where
       let is : mask ≡ m = sampled ∙ ap (cipher (k .hp)) (ap₂ sampleOf whole here ∙ sample-inside rest enough) in
       let at : place ≡ suc (length (c .fields)) = omega (arith, here) in
       let same : length (protected aesGcm form k c) ≡ length (header ++ body)
-      = protected-length aesGcm aes-gcm-laws form k c ∙ omega (arith, length-append header body, plain-length c, size) in
+      = protected-length aesGcm k c form aes-gcm-laws ∙ omega (arith, length-append header body, plain-length c, size) in
       let masked-is : masked form mask place (c .numberLength) two ≡ onFirst form m (c .first) ∷ (c .fields ++ onNumber m short ++ (body ++ rest))
       = rw (is, at, whole, regroup (c .fields) short body rest)
       (mask-over form m (c .fields) short (body ++ rest) (c .first) (c .numberLength) (short-length c)) in
