@@ -1,1 +1,3 @@
+pub mod Levels
 pub mod Versions
+pub mod Answers

@@ -1,7 +1,11 @@
-// RFC 9000 section 15 and docs/SCOPE.md, "Constants": the versions, and all that differs between them but the labels.
+// RFC 9000 sections 15 and 17.2 and docs/SCOPE.md, "Constants": the versions, and all that differs between them but the labels.
+use octets::refusal;
 ghost use mathlib.Core.Path.{_≡_};
 ghost use Rattle.versions.specs.Versions as Constants;
-ghost use Rattle.versions.specs.Versions.{known};
+ghost use Rattle.versions.specs.Versions.{known, typeFor, levelOf};
+ghost use Rattle.versions.specs.Answers.{levelAnswer};
+
+pub mod level;
 
 // RFC 9000 section 15: version 1.
 pub const VERSION_1: u32 = 0x00000001;
@@ -29,6 +33,12 @@ const RETRY_NONCE_1: [u8; 12] = *b"\x46\x15\x99\xd3\x5d\x63\x2b\xf2\x23\x98\x25\
 // The draft's nonce for Retry.
 const RETRY_NONCE_2: [u8; 12] = *b"\x14\x1b\x99\xc2\x39\xb0\x3e\x78\x5d\x6a\x2e\x9f";
 
+// The level that a packet type is of; Retry is of none.
+pub enum Leveled {
+    Refused(u8),
+    Of(u8),
+}
+
 // Whether the version is one of the two.
 pub fn is_known(version: u32) -> bool
     ensures { λ r. ⌜ r ≡ known version ⌝ }
@@ -40,13 +50,62 @@ pub fn is_known(version: u32) -> bool
 }
 
 // The packet type that says Initial.
-pub fn initial_type(version: u32) -> u8
+fn initial_type(version: u32) -> u8
     ensures { λ r. ⌜ r ≡ Constants.version version .initialType ⌝ }
 {
     if version == VERSION_1 {
         return 0;
     }
     1
+}
+
+// The packet type that says 0-RTT.
+fn zero_rtt_type(version: u32) -> u8
+    ensures { λ r. ⌜ r ≡ Constants.version version .zeroRttType ⌝ }
+{
+    if version == VERSION_1 {
+        return 1;
+    }
+    2
+}
+
+// The packet type that says Handshake.
+fn handshake_type(version: u32) -> u8
+    ensures { λ r. ⌜ r ≡ Constants.version version .handshakeType ⌝ }
+{
+    if version == VERSION_1 {
+        return 2;
+    }
+    3
+}
+
+// The packet type that a version writes for a level with a long header.
+pub fn type_for(version: u32, level: u8) -> u8
+    ensures { λ r. ⌜ r ≡ typeFor (Constants.version version) level ⌝ }
+{
+    if level == level::INITIAL {
+        return initial_type(version);
+    }
+    if level == level::ZERO_RTT {
+        return zero_rtt_type(version);
+    }
+    handshake_type(version)
+}
+
+// The level that a packet type is of.
+pub fn level_of(version: u32, kind: u8) -> Leveled
+    ensures { λ r. ⌜ levelAnswer r ≡ levelOf (Constants.version version) kind ⌝ }
+{
+    if kind == type_for(version, level::INITIAL) {
+        return Leveled::Of(level::INITIAL);
+    }
+    if kind == type_for(version, level::ZERO_RTT) {
+        return Leveled::Of(level::ZERO_RTT);
+    }
+    if kind == type_for(version, level::HANDSHAKE) {
+        return Leveled::Of(level::HANDSHAKE);
+    }
+    Leveled::Refused(refusal::TYPE)
 }
 
 // The packet type that says Retry.
