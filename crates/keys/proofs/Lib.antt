@@ -1,2 +1,4 @@
 pub mod Made
+pub mod Installed
+pub mod Boundaries
 pub mod OneAnswer

@@ -6,10 +6,12 @@ use mathlib.Core.List.{List}
 use lib.ListN.{length}
 use borrow.Author.Tests.{le-leb, lt-leb}
 use Rattle.octets.specs.Outcome.{refused, given}
+use Rattle.versions.specs.Levels.{initial}
 use Rattle.versions.specs.Versions.{known}
 use Rattle.header_fields.specs.Fields.{longestId}
 use Rattle.keys_expansion.specs.Expansion.{keysFrom}
-use Rattle.keys.specs.InitialKeys.{Side, sideSecret, initialKeys}
+use Rattle.keys.specs.Sides.{Side}
+use Rattle.keys.specs.InitialKeys.{sideSecret, initialKeys}
 
 module _ (v : ℕ) (destination : List ℕ) (side : Side) where
   pub unknown-version : known v ≡ false → initialKeys v destination side ≡ refused 4
@@ -21,6 +23,6 @@ module _ (v : ℕ) (destination : List ℕ) (side : Side) where
     unfolding initialKeys
     long-id h = rw (ours, lt-leb (length destination) longestId h)
 
-    pub keys-made : length destination ≤ longestId → initialKeys v destination side ≡ given (keysFrom v (sideSecret v destination side))
+    pub keys-made : length destination ≤ longestId → initialKeys v destination side ≡ given (keysFrom v initial (sideSecret v destination side))
     unfolding initialKeys
     keys-made h = rw (ours, le-leb (length destination) longestId h)

@@ -6,14 +6,12 @@ use lib.ListN.{length}
 use Rattle.octets.specs.Outcome.{Outcome, given, unless, _>>=_, _>>_}
 use Rattle.octets.specs.Text.{ascii}
 use Rattle.hkdf.specs.Hkdf.{extract, expandLabel}
+use Rattle.versions.specs.Levels.{initial}
 use Rattle.versions.specs.Versions.{known, version}
 use Rattle.header_fields.specs.Fields.{longestId}
 use Rattle.protection.specs.Protection.{Keys}
 use Rattle.keys_expansion.specs.Expansion.{keysFrom}
-
-pub data Side : Type 0 where
-  client : Side
-  server : Side
+use Rattle.keys.specs.Sides.{Side, client, server}
 
 -- section 5.2: the label of a side's secret
 unfoldable pub sideLabel : Side → List ℕ
@@ -28,4 +26,4 @@ unfoldable pub initialKeys : (v : ℕ) (destination : List ℕ) → Side → Out
 initialKeys v destination side = do
   unless 4 (known v)
   unless 5 (leb (length destination) longestId)
-  given (keysFrom v (sideSecret v destination side))
+  given (keysFrom v initial (sideSecret v destination side))

@@ -1,2 +1,5 @@
+pub mod Sides
 pub mod InitialKeys
+pub mod InstalledKeys
 pub mod Answers
+pub mod Boundaries

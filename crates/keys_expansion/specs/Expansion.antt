@@ -13,10 +13,11 @@ labelOf Part.Key v = v .keyLabel
 labelOf Part.Iv v = v .ivLabel
 labelOf Part.Hp v = v .hpLabel
 
--- key, iv and hp
-unfoldable pub keysFrom : (v : ℕ) (secret : List ℕ) → Keys
-keysFrom v secret = record {
+-- key, iv and hp, alike at every level
+unfoldable pub keysFrom : (v level : ℕ) (secret : List ℕ) → Keys
+keysFrom v level secret = record {
   version = v;
+  level = level;
   key = expandLabel secret (version v .keyLabel) 16;
   iv = expandLabel secret (version v .ivLabel) 12;
   hp = expandLabel secret (version v .hpLabel) 16;

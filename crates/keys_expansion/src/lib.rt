@@ -48,9 +48,9 @@ fn expand_part(number: u32, part: Part, secret: &[u8; 32], out: &mut [u8])
     hkdf::expand_label(secret, &text[0..count], out);
 }
 
-// A sender's keys, from its secret.
-pub fn keys_from(number: u32, secret: &[u8; 32]) -> Keys
-    ensures { λ r. ⌜ keysOf r ≡ keysFrom number (now (secret .entry)) ⌝ }
+// A sender's keys of a level, from its secret there.
+pub fn keys_from(number: u32, level: u8, secret: &[u8; 32]) -> Keys
+    ensures { λ r. ⌜ keysOf r ≡ keysFrom number level (now (secret .entry)) ⌝ }
 {
     let mut key = [0u8; 16];
     expand_part(number, Part::Key, secret, &mut key);
@@ -60,6 +60,7 @@ pub fn keys_from(number: u32, secret: &[u8; 32]) -> Keys
     expand_part(number, Part::Hp, secret, &mut hp);
     Keys {
         version: number,
+        level,
         key,
         iv,
         hp,

@@ -3,4 +3,4 @@ use Rattle.protection.specs.Protection.{Keys}
 use Rattle.protection.specs.declared.Keys as Code
 
 abbrev pub keysOf : Code.Keys → Keys
-keysOf k = record { version = k .version; key = k .key; iv = k .iv; hp = k .hp }
+keysOf k = record { version = k .version; level = k .level; key = k .key; iv = k .iv; hp = k .hp }

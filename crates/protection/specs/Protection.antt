@@ -5,9 +5,10 @@ use lib.ListN.{getD, drop}
 use Rattle.octets.specs.Octets.{bytes, part, xor, laid}
 use Rattle.header_forms.specs.Forms.{Form, maskedFirst}
 
--- one sender's keys
+-- one sender's keys, of one version and level
 pub record Keys : Type 0 where
   pub version : ℕ
+  pub level : ℕ
   pub key : List ℕ
   pub iv : List ℕ
   pub hp : List ℕ

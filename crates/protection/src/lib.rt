@@ -5,9 +5,10 @@ ghost use lib.ListN.{length};
 ghost use Rattle.aes_byte_rounds.specs.Cipher.{cipher};
 ghost use Rattle.protection.specs.Protection.{nonce, sampleOf};
 
-// One sender's keys, of one version.
+// One sender's keys, of one version and level.
 pub struct Keys {
     pub version: u32,
+    pub level: u8,
     pub key: [u8; 16],
     pub iv: [u8; 12],
     pub hp: [u8; 16],

@@ -7,7 +7,7 @@ use Rattle.keys_expansion.proofs.keys_from.Tie as tie
 
 returns : tie.Need-returns
 unfolding keysFrom
-returns c = keys-same _ (c .before .before .before .before .before .before .before .expand-part .ensures) (c .before .before .before .before .expand-part2 .ensures) (c .before .expand-part3 .ensures)
+returns c = keys-same _ _ (c .before .before .before .before .before .before .before .expand-part .ensures) (c .before .before .before .before .expand-part2 .ensures) (c .before .expand-part3 .ensures)
 
 pub keys-from-spec : {M : Type 1} → statement M
 keys-from-spec =
