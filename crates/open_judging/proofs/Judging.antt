@@ -4,7 +4,6 @@ use mathlib.Core.Path.{_≡_, _∙_}
 use mathlib.Core.Bool.{true}
 use mathlib.Core.List.{List}
 use native.Mathlib.Omega.{arith}
-use lib.Dec.{eqb}
 use Rattle.octets.specs.Outcome.{given}
 use Rattle.numbers.specs.Numbers.{numbers}
 use Rattle.versions.specs.Versions.{known}
@@ -12,10 +11,11 @@ use Rattle.header_forms.specs.Rules.{inForce}
 use Rattle.header_forms.specs.Forms.{longForm, formed}
 use Rattle.header_forms.proofs.Forms.{formed-fits}
 use Rattle.header_fields.specs.Fields.{tagLength}
-use Rattle.header_initial.specs.InitialHeader.{Header, header, initials}
-use Rattle.header_initial.proofs.InitialHeaders.{header-there}
+use Rattle.header_reading.specs.PacketHeader.{Header, header}
+use Rattle.header_reading.proofs.PacketHeaders.{header-there}
 use Rattle.protection.specs.Protection.{Keys}
 use Rattle.protection.specs.AesGcm.{aesGcm}
+use Rattle.packets.specs.Packet.{ofKeys}
 use Rattle.packets.proofs.Opening.{open-protected}
 use Rattle.open_revealing.specs.Revealing.{Placed, Reveals}
 use Rattle.open_revealing.specs.declared.Finding.{Finding}
@@ -23,17 +23,17 @@ use Rattle.open_revealing.specs.declared.Finding.the-variants as Finding
 use Rattle.open_judging.specs.Found.{Finds}
 
 module _ (k : Keys) (e : ℕ) (d : List ℕ) (room : ℕ) (fair : e ≤ numbers) (ours : known (k .version) ≡ true) (long : given tt ≡ formed inForce longForm d) {h : Header}
-    (read : given h ≡ header (initials (λ v. eqb v (k .version))) d) where
+    (read : given h ≡ header (ofKeys k) d) where
   -- the packet lies whole in the datagram
   pub placed : Placed e d (h .numberAt) (h .length′)
   placed =
-      let there = header-there (initials (λ v. eqb v (k .version))) d read in
+      let there = header-there (ofKeys k) d read in
       record { fair = fair; headed = omega arith; enough = there .enough; all = there .all }
 
   pub found : h .numberAt + h .length′ - tagLength ≤ room → (f : Finding) → Reveals longForm k e d (h .numberAt) (h .length′) f → Finds k e d room f
   found enough (Finding.Refused n) r = open-protected aesGcm inForce k e d room fair ours long read enough ∙ r
   found enough (Finding.Found p) r =
-      let there = header-there (initials (λ v. eqb v (k .version))) d read in
+      let there = header-there (ofKeys k) d read in
       record {
         within = record {
           fits = formed-fits inForce longForm d long;

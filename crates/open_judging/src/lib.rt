@@ -3,11 +3,11 @@ use header_fields::TAG_LENGTH;
 use header_forms::Form;
 use header_forms::Formed;
 use header_forms::judge_form;
-use header_initial::Reading;
-use header_initial::read_initial;
 use header_long::Judge;
 use header_long::Types;
 use header_long::Versions;
+use header_reading::Reading;
+use header_reading::read_fields;
 use numbers::NUMBERS;
 use octets::refusal;
 use open_revealing::Finding;
@@ -24,6 +24,7 @@ pub fn find(keys: Keys, expected: u64, datagram: &[u8], room: usize) -> Finding
         return Finding::Refused(refusal::RANGE);
     }
     let version = keys.version;
+    let level = keys.level;
     if !versions::is_known(version) {
         return Finding::Refused(refusal::VERSION);
     }
@@ -33,9 +34,9 @@ pub fn find(keys: Keys, expected: u64, datagram: &[u8], room: usize) -> Finding
     }
     let judge = Judge {
         versions: Versions::Only(version),
-        types: Types::Initial,
+        types: Types::Level(level),
     };
-    let header = match read_initial(datagram, judge) {
+    let header = match read_fields(datagram, judge) {
         Reading::Refused(why) => return Finding::Refused(why),
         Reading::Read(header) => header,
     };

@@ -3,26 +3,24 @@ use Prim.Native.Nat.{ℕ, _+_, _/_, _≤_}
 use mathlib.Core.Path.{_≡_, refl, sym, ap, _∙_}
 use mathlib.Core.List.{List, _∷_, _++_, append-assoc}
 use native.Mathlib.Omega.{arith}
-use lib.Dec.{eqb}
 use lib.ListN.{length, getD, take, length-append}
 use lib.Seq.{take-at}
 use borrow.Author.Tests.{eq-eqb}
 use Rattle.octets.specs.Outcome.{given}
 use Rattle.numbers.specs.Numbers.{numbers}
 use Rattle.numbers_recovery.specs.Recovery.{Near}
-use Rattle.versions.specs.Versions.{version}
-use Rattle.versions.proofs.Versions.{initial-fits}
+use Rattle.versions.specs.Versions.{version, typeFor}
+use Rattle.versions.proofs.Versions.{type-fits}
 use Rattle.header_forms.specs.Rules.{Rules, Readable}
 use Rattle.header_forms.specs.Forms.{longForm, formed}
 use Rattle.header_forms.proofs.Forms.{formed-right}
-use Rattle.header_initial.specs.InitialHeader.{initials}
 use Rattle.header_writing.specs.Written.{Plain, firstByte, fields, lengthOf}
-use Rattle.header_writing.proofs.HeaderBack.{Written, numberAt, number-place, type-taken, header-read}
+use Rattle.header_writing.proofs.HeaderBack.{Written, numberAt, number-place, level-taken, header-read}
 use Rattle.protection.specs.Suite.{Suite, Laws}
 use Rattle.protection.specs.Protection.{Keys}
 use Rattle.protection.specs.Clear.{Clear}
 use Rattle.protection.proofs.RoundTrip.{first-kept, hiddenFirst, fromNumber, protected-is, from-number-length, protected-length, unprotected-back}
-use Rattle.packets.specs.Packet.{clearOf, packetOf, opened}
+use Rattle.packets.specs.Packet.{clearOf, packetOf, ofKeys, opened}
 use Rattle.packets.specs.Effects.{whatWasSealed}
 use Rattle.packets.proofs.Sealing.{Sealed, well-made}
 use Rattle.packets.proofs.Opening.{open-protected}
@@ -32,8 +30,11 @@ module _ (suite : Suite) (laws : Laws suite) (rules : Rules) (readable : Readabl
   abbrev v : ℕ
   v = k .version
 
+  abbrev level : ℕ
+  level = k .level
+
   abbrev clear : Clear
-  clear = clearOf rules v p
+  clear = clearOf rules v level p
 
   -- in the packet the first byte is masked, and so is all from the number on
   abbrev first : ℕ
@@ -48,9 +49,9 @@ module _ (suite : Suite) (laws : Laws suite) (rules : Rules) (readable : Readabl
       (ap (λ (s : List ℕ). first ∷ s) (append-assoc (fields rules v p) (fromNumber suite k clear) behind))
 
   -- form, fixed bit and type, under any mask
-  first-form : first / 16 ≡ 12 + version v .initialType
+  first-form : first / 16 ≡ 12 + typeFor (version v) level
   unfolding firstByte
-  first-form = first-kept longForm _ (firstByte v p) ∙ omega (arith, made .plain .short)
+  first-form = first-kept longForm _ (firstByte v level p) ∙ omega (arith, made .plain .short)
 
   size : length packet ≡ numberAt rules p + lengthOf p
   size = omega (arith, number-place rules v p, protected-length suite k clear longForm laws, ap length (made .is))
@@ -59,15 +60,16 @@ module _ (suite : Suite) (laws : Laws suite) (rules : Rules) (readable : Readabl
   long =
       let byte : getD d 0 0 ≡ first = rw is in
       let some = ap length is in
-      formed-right rules longForm d (omega arith) fits (omega (arith, first-form, initial-fits v))
+      formed-right rules longForm d (omega arith) fits (omega (arith, first-form, type-fits v level))
 
-  written : Written rules (initials (λ w. eqb w v)) v first tt p d rest
+  written : Written rules (ofKeys k) v first level p d rest
   written = record {
     is = is;
     fits = fits;
     ours = made .ours;
     taken = eq-eqb v v refl;
-    judges = type-taken (λ w. eqb w v) (λ row. row .initialType) v first first-form (initial-fits v);
+    judges = level-taken v first level (p .token) first-form (made .suits);
+    suits = made .suits;
     short-destination = made .plain .short-destination;
     short-source = made .plain .short-source;
     enough = omega (arith, made .plain .enough);
@@ -77,7 +79,7 @@ module _ (suite : Suite) (laws : Laws suite) (rules : Rules) (readable : Readabl
   opened-joined : (e room : ℕ) → e ≤ numbers → Near e (p .packetNumber) (p .numberLength) → length packet ≤ room + 16
       → opened suite rules k e d room ≡ given (whatWasSealed rules k p packet)
   opened-joined e room fair near enough =
-      let read = sym (header-read rules readable (initials (λ w. eqb w v)) v first tt p d rest written) in
+      let read = sym (header-read rules readable (ofKeys k) v first level p d rest written) in
       let taken : take (numberAt rules p + lengthOf p) d ≡ packetOf suite rules k p
       = rw joined (take-at packet behind (numberAt rules p + lengthOf p) size) ∙ made .is in
       open-protected suite rules k e d room fair (made .ours) (sym long) read (omega (arith, size))

@@ -3,7 +3,7 @@ use Prim.Native.Nat.{ℕ, _+_, _-_, _≤_, _<_}
 use mathlib.Core.Path.{_≡_}
 use mathlib.Core.List.{List}
 use mathlib.Core.Bool.{true, false}
-use lib.Dec.{leb, eqb}
+use lib.Dec.{leb}
 use lib.ListN.{length, take}
 use lib.Seq.{length-take-le}
 use borrow.Author.Tests.{le-leb, lt-leb}
@@ -13,12 +13,12 @@ use Rattle.versions.specs.Versions.{known}
 use Rattle.header_forms.specs.Rules.{Rules}
 use Rattle.header_forms.specs.Forms.{longForm, formed}
 use Rattle.header_fields.specs.Fields.{tagLength}
-use Rattle.header_initial.specs.InitialHeader.{Header, header, initials}
-use Rattle.header_initial.proofs.InitialHeaders.{header-there}
+use Rattle.header_reading.specs.PacketHeader.{Header, header}
+use Rattle.header_reading.proofs.PacketHeaders.{header-there}
 use Rattle.protection.specs.Suite.{Suite}
 use Rattle.protection.specs.Protection.{Keys}
 use Rattle.protection.specs.Clear.{unprotected}
-use Rattle.packets.specs.Packet.{opened}
+use Rattle.packets.specs.Packet.{ofKeys, opened}
 
 module _ (suite : Suite) (rules : Rules) (k : Keys) (e : ℕ) (d : List ℕ) (room : ℕ) where
   pub open-expected : numbers < e → opened suite rules k e d room ≡ refused 10
@@ -40,13 +40,13 @@ module _ (suite : Suite) (rules : Rules) (k : Keys) (e : ℕ) (d : List ℕ) (ro
 
       module _ (long : given tt ≡ formed rules longForm d) where
         -- whatever the header's reading refuses
-        pub open-header : {n : ℕ} → refused n ≡ header (initials (λ v. eqb v (k .version))) d → opened suite rules k e d room ≡ refused n
+        pub open-header : {n : ℕ} → refused n ≡ header (ofKeys k) d → opened suite rules k e d room ≡ refused n
         unfolding opened
         open-header h = rw (expects, ours, ← long, ← h)
 
-        module _ {h : Header} (read : given h ≡ header (initials (λ v. eqb v (k .version))) d) where
+        module _ {h : Header} (read : given h ≡ header (ofKeys k) d) where
           whole : length (take (h .numberAt + h .length′) d) ≡ h .numberAt + h .length′
-          whole = length-take-le (h .numberAt + h .length′) d (header-there (initials (λ v. eqb v (k .version))) d read .all)
+          whole = length-take-le (h .numberAt + h .length′) d (header-there (ofKeys k) d read .all)
 
           pub open-room : room < h .numberAt + h .length′ - tagLength → opened suite rules k e d room ≡ refused 8
           unfolding opened

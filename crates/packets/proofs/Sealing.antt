@@ -15,8 +15,8 @@ use Rattle.numbers.specs.Numbers.{numbers}
 use Rattle.header_forms.specs.Rules.{Rules}
 use Rattle.header_forms.specs.Forms.{longForm, reservedBits}
 use Rattle.header_fields.specs.Fields.{longestId}
-use Rattle.header_writing.specs.Written.{Plain, firstByte, lengthOf}
-use Rattle.header_writing.proofs.Forms.{initial-length}
+use Rattle.header_writing.specs.Written.{writes, Plain, firstByte, lengthOf}
+use Rattle.header_writing.proofs.Forms.{fields-length}
 use Rattle.protection.specs.Suite.{Suite, Laws}
 use Rattle.protection.specs.Protection.{Keys}
 use Rattle.protection.proofs.RoundTrip.{WellMade, protected-length}
@@ -30,15 +30,20 @@ module _ (suite : Suite) (rules : Rules) (k : Keys) (a : Acknowledged) (p : Plai
   seal-version h = rw h
 
   module _ (ours : known (k .version) ≡ true) where
+    pub seal-level : writes (p .token) (k .level) ≡ false → sealed suite rules k a p room ≡ refused 6
+    unfolding sealed
+    seal-level h = rw (ours, h)
+
+  module _ (ours : known (k .version) ≡ true) (suits : writes (p .token) (k .level) ≡ true) where
     -- 10, 14 or 12, as shortening the number has it
     pub seal-number : {n : ℕ} → refused n ≡ shortened (p .packetNumber) a (p .numberLength) → sealed suite rules k a p room ≡ refused n
     unfolding sealed
-    seal-number h = rw (ours, ← h)
+    seal-number h = rw (ours, suits, ← h)
 
     module _ {t : ℕ} (short : given t ≡ shortened (p .packetNumber) a (p .numberLength)) where
       pub seal-destination : longestId < length (p .destination) → sealed suite rules k a p room ≡ refused 5
       unfolding sealed
-      seal-destination h = rw (ours, ← short, lt-leb (length (p .destination)) longestId h)
+      seal-destination h = rw (ours, suits, ← short, lt-leb (length (p .destination)) longestId h)
 
       module _ (short-destination : length (p .destination) ≤ longestId) where
         first-id : leb (length (p .destination)) longestId ≡ true
@@ -46,7 +51,7 @@ module _ (suite : Suite) (rules : Rules) (k : Keys) (a : Acknowledged) (p : Plai
 
         pub seal-source : longestId < length (p .source) → sealed suite rules k a p room ≡ refused 5
         unfolding sealed
-        seal-source h = rw (ours, ← short, first-id, lt-leb (length (p .source)) longestId h)
+        seal-source h = rw (ours, suits, ← short, first-id, lt-leb (length (p .source)) longestId h)
 
         module _ (short-source : length (p .source) ≤ longestId) where
           second-id : leb (length (p .source)) longestId ≡ true
@@ -54,7 +59,7 @@ module _ (suite : Suite) (rules : Rules) (k : Keys) (a : Acknowledged) (p : Plai
 
           pub seal-short : p .numberLength + length (p .payload) < 4 → sealed suite rules k a p room ≡ refused 7
           unfolding sealed
-          seal-short h = rw (ours, ← short, first-id, second-id, lt-leb 4 (p .numberLength + length (p .payload)) h)
+          seal-short h = rw (ours, suits, ← short, first-id, second-id, lt-leb 4 (p .numberLength + length (p .payload)) h)
 
           module _ (enough : 4 ≤ p .numberLength + length (p .payload)) where
             sampled : leb 4 (p .numberLength + length (p .payload)) ≡ true
@@ -62,7 +67,7 @@ module _ (suite : Suite) (rules : Rules) (k : Keys) (a : Acknowledged) (p : Plai
 
             pub seal-size : rules .limit < length (packetOf suite rules k p) → sealed suite rules k a p room ≡ refused 1
             unfolding sealed
-            seal-size h = rw (ours, ← short, first-id, second-id, sampled, lt-leb (length (packetOf suite rules k p)) (rules .limit) h)
+            seal-size h = rw (ours, suits, ← short, first-id, second-id, sampled, lt-leb (length (packetOf suite rules k p)) (rules .limit) h)
 
             module _ (fits : length (packetOf suite rules k p) ≤ rules .limit) where
               sized : leb (length (packetOf suite rules k p)) (rules .limit) ≡ true
@@ -70,19 +75,19 @@ module _ (suite : Suite) (rules : Rules) (k : Keys) (a : Acknowledged) (p : Plai
 
               pub seal-room : room < length (packetOf suite rules k p) → sealed suite rules k a p room ≡ refused 8
               unfolding sealed
-              seal-room h = rw (ours, ← short, first-id, second-id, sampled, sized, lt-leb (length (packetOf suite rules k p)) room h)
+              seal-room h = rw (ours, suits, ← short, first-id, second-id, sampled, sized, lt-leb (length (packetOf suite rules k p)) room h)
 
               pub seal-given : length (packetOf suite rules k p) ≤ room → sealed suite rules k a p room ≡ given (packetOf suite rules k p)
               unfolding sealed
-              seal-given h = rw (ours, ← short, first-id, second-id, sampled, sized, le-leb (length (packetOf suite rules k p)) room h)
+              seal-given h = rw (ours, suits, ← short, first-id, second-id, sampled, sized, le-leb (length (packetOf suite rules k p)) room h)
 
 -- ---- how long
 pub packet-size : (suite : Suite) (rules : Rules) (k : Keys) (p : Plain) → Laws suite → length (packetOf suite rules k p) ≡ sizeOf rules p
 packet-size suite rules k p laws =
     omega (
       arith,
-      protected-length suite k (clearOf rules (k .version) p) longForm laws,
-      initial-length rules (k .version) (p .destination) (p .source) (p .token) (lengthOf p),
+      protected-length suite k (clearOf rules (k .version) (k .level) p) longForm laws,
+      fields-length rules (k .version) (p .destination) (p .source) (p .token) (lengthOf p),
     )
 
 -- ---- what is known of a packet because the rules sealed it
@@ -102,6 +107,7 @@ shortening m a n t h =
 
 pub record Sealed (suite : Suite) (rules : Rules) (k : Keys) (p : Plain) (packet : List ℕ) : Type 0 where
   pub ours : known (k .version) ≡ true
+  pub suits : writes (p .token) (k .level) ≡ true
   pub small : p .packetNumber < numbers
   pub plain : Sealable p
   pub fits : length (packetOf suite rules k p) ≤ rules .limit
@@ -112,7 +118,8 @@ sealing-passes : (suite : Suite) (rules : Rules) (k : Keys) (a : Acknowledged) (
 unfolding sealed
 sealing-passes suite rules k a p room packet h =
     let ours = passed _ _ _ h in
-    let t = stepped (shortened (p .packetNumber) a (p .numberLength)) _ (ours .1) in
+    let suits = passed _ _ _ (ours .1) in
+    let t = stepped (shortened (p .packetNumber) a (p .numberLength)) _ (suits .1) in
     let n = shortening (p .packetNumber) a (p .numberLength) (t .0) (t .1) in
     let ids = passed _ _ _ (t .2) in
     let two = both _ _ (ids .0) in
@@ -121,6 +128,7 @@ sealing-passes suite rules k a p room packet h =
     let last = passed 8 (leb (length (packetOf suite rules k p)) room) _ (fits .1) in (
       record {
         ours = ours .0;
+        suits = suits .0;
         small = n .small;
         plain = record {
           positive = n .positive;
@@ -146,7 +154,7 @@ sealing-enters suite rules k a p room packet h = sealing-passes suite rules k a 
 
 -- so it is well made
 pub well-made : (suite : Suite) (rules : Rules) (k : Keys) (p : Plain) (packet : List ℕ) → Sealed suite rules k p packet
-    → WellMade longForm (clearOf rules (k .version) p)
+    → WellMade longForm (clearOf rules (k .version) (k .level) p)
 unfolding firstByte reservedBits
 well-made suite rules k p packet made = record {
   small = made .small;

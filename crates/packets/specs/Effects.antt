@@ -10,7 +10,7 @@ use Rattle.packets.specs.Packet.{clearOf}
 
 -- all that went into the packet: its plain header, number and payload, and how long it is
 abbrev pub whatWasSealed : Rules → Keys → Plain → (packet : List ℕ) → Opened
-whatWasSealed rules k p packet = whatWasProtected (clearOf rules (k .version) p) packet
+whatWasSealed rules k p packet = whatWasProtected (clearOf rules (k .version) (k .level) p) packet
 
 -- plain header, then payload
 abbrev pub written : Opened → List ℕ

@@ -9,17 +9,17 @@ use Rattle.octets.specs.Outcome.{given}
 use Rattle.octets.specs.Octets.{bytes, number, xor, same}
 use Rattle.octets.proofs.Numbers.{bytes-length}
 use Rattle.octets.proofs.Xor.{xor-length, xor-undone}
-use Rattle.versions.specs.Versions.{version1, draft2, known, version}
+use Rattle.versions.specs.Versions.{version1, draft2, known, version, typeFor, levelOf}
 use Rattle.integers.specs.Integer.{integer}
 use Rattle.numbers_shortening.specs.Shortening.{nothing, coverable, ahead, gap, shortened}
 use Rattle.numbers_recovery.specs.Recovery.{decoded}
 use Rattle.header_fields.specs.Fields.{idAt, integerAt, fieldAt, restAt}
 use Rattle.header_forms.specs.Rules.{inForce}
 use Rattle.header_forms.specs.Forms.{maskedFirst, reservedBits, formed}
-use Rattle.header_long.specs.LongHeader.{versionOf, judged, long}
-use Rattle.header_initial.specs.InitialHeader.{header}
+use Rattle.header_long.specs.LongHeader.{onlyLevel, versionOf, judged, long}
+use Rattle.header_reading.specs.PacketHeader.{tokenAt, header}
 use Rattle.integers_writing.specs.Written.{two, smallest}
-use Rattle.header_writing.specs.Written.{longFields, initialFields, firstByte}
+use Rattle.header_writing.specs.Written.{longFields, packetFields, firstByte}
 use Rattle.protection.specs.Suite.{Laws}
 use Rattle.protection.specs.Protection.{nonce, onFirst, onNumber, sampleOf}
 use Rattle.protection.specs.Clear.{bodyWith, bodyOf, protected, revealed, decrypted, unprotected}
@@ -49,12 +49,12 @@ good e m made sized below above = record {
 
 fair : Fair toy keys 0 coming
 unfolding toy keys plainOf sealedOf parcelOf comes empty damaged coming
-    bytes number xor version1 draft2 known version integer coverable ahead gap shortened decoded
-    formed idAt versionOf judged long integerAt fieldAt restAt header two smallest longFields initialFields firstByte
+    bytes number xor version1 draft2 known version typeFor levelOf integer coverable ahead gap shortened decoded
+    formed idAt onlyLevel versionOf judged long integerAt fieldAt restAt tokenAt header two smallest longFields packetFields firstByte
     nonce maskedFirst reservedBits onFirst onNumber sampleOf same bodyWith bodyOf protected sealed revealed decrypted unprotected opened
 fair = (good 0 0 refl refl tt tt, (refl, (good 1 2 refl refl tt tt, (good 3 2 refl refl tt tt, (refl, (good 3 4 refl refl tt tt, (good 5 3 refl refl tt tt, tt)))))))
 
 -- what is owed, as bytes
 pub example : Example
-unfolding keys plainOf sealedOf parcelOf comes empty damaged coming opens refuses toy bytes number xor version1 version two smallest longFields initialFields firstByte nonce maskedFirst onFirst onNumber sampleOf bodyWith bodyOf protected
+unfolding keys plainOf sealedOf parcelOf comes empty damaged coming opens refuses toy bytes number xor version1 version typeFor two smallest longFields packetFields firstByte nonce maskedFirst onFirst onNumber sampleOf bodyWith bodyOf protected
 example = let r = demand3 toy laws keys 0 coming (lit≤ tt) fair in record { each = r .each; last = r .last }

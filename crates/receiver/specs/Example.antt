@@ -6,7 +6,8 @@ use lib.ListN.{take, replicate}
 use Rattle.octets.specs.Outcome.{refused, given}
 use Rattle.octets.specs.Octets.{bytes, number, xor}
 use Rattle.numbers_shortening.specs.Shortening.{nothing}
-use Rattle.header_writing.specs.Written.{Plain}
+use Rattle.versions.specs.Levels.{initial}
+use Rattle.header_writing.specs.Written.{holding, Plain}
 use Rattle.header_forms.specs.Rules.{inForce}
 use Rattle.protection.specs.Suite.{Suite}
 use Rattle.protection.specs.Protection.{Keys}
@@ -25,6 +26,7 @@ toy = record {
 unfoldable pub keys : Keys
 keys = record {
   version = 1;
+  level = initial;
   key = bytes 16 0x1f369613dd76d5467730efcbe3b1a22d;
   iv = bytes 12 0xfa044b2f42a3fd3b46fb255c;
   hp = bytes 16 0x9f50449e04a0e810283a1e9933adedd2;
@@ -35,7 +37,7 @@ unfoldable pub plainOf : (m : ℕ) → Plain
 plainOf m = record {
   destination = 0x83 ∷ 0x94 ∷ [];
   source = [];
-  token = [];
+  token = holding [];
   payload = m ∷ m ∷ m ∷ m ∷ [];
   packetNumber = m;
   numberLength = 1;

@@ -9,6 +9,6 @@ use Rattle.protection.specs.Clear.{numberAt, plainHeader}
 use Rattle.packets.specs.Packet.{clearOf}
 
 -- the plain header at a buffer's start, and where its number stands
-pub record HeaderWritten (v : ℕ) (p : Plain) (before after : List ℕ) (place : ℕ) : Type 0 where
-  pub holds : after ≡ begun (plainHeader (clearOf inForce v p)) before
-  pub stands : place ≡ numberAt (clearOf inForce v p)
+pub record HeaderWritten (v level : ℕ) (p : Plain) (before after : List ℕ) (place : ℕ) : Type 0 where
+  pub holds : after ≡ begun (plainHeader (clearOf inForce v level p)) before
+  pub stands : place ≡ numberAt (clearOf inForce v level p)

@@ -2,6 +2,8 @@
 use header_fields::LONGEST_ID;
 use header_fields::TAG_LENGTH;
 use header_forms::LIMIT;
+use header_writing::TokenField;
+use header_writing::is_written_by;
 use numbers::FullPn;
 use numbers_shortening::Acknowledged;
 use numbers_shortening::Shortened;
@@ -14,12 +16,12 @@ ghost use lib.ListN.{length};
 ghost use Rattle.octets.specs.Octets.{lengthGiven};
 ghost use Rattle.numbers_shortening.specs.Answers.{acknowledgedOf};
 ghost use Rattle.header_fields.specs.Fields.{longestId};
-ghost use Rattle.integers_writing.specs.Written.{smallest};
 ghost use Rattle.header_forms.specs.Rules.{inForce};
+ghost use Rattle.header_writing.specs.Answers.{tokenOf, tokenSize};
 ghost use Rattle.protection.specs.KeyRecord.{keysOf};
 ghost use Rattle.packets.specs.Packet.{sealed};
 ghost use Rattle.protection.specs.AesGcm.{aesGcm};
-ghost use Rattle.seal_judging.specs.Judging.{sealingAnswer, sized};
+ghost use Rattle.seal_judging.specs.Judging.{sealingAnswer, heldOf, sized};
 
 // What sealing answers: a refusal's number, or the packet's length.
 pub enum Sealing {
@@ -27,17 +29,33 @@ pub enum Sealing {
     Written(usize),
 }
 
+// How long a token is, as far as the packet has a field for it.
+fn held(field: TokenField, token: usize) -> usize
+    ensures { λ r. ⌜ r ≡ heldOf field token ⌝ }
+{
+    match field {
+        TokenField::Holding => token,
+        TokenField::Absent => 0,
+    }
+}
+
 // How long the packet is, where no part of it is over the limit.
-fn size_of(count: usize, destination: usize, source: usize, token: usize, payload: usize) -> usize
-    requires { ⌜ (count ≤ 4) × (destination ≤ inForce .limit) × (source ≤ inForce .limit) × (token ≤ inForce .limit) × (payload ≤ inForce .limit) ⌝ }
-    ensures { λ r. ⌜ r ≡ 7 + destination + source + length (smallest token) + token + length (inForce .lengthForm (count + payload + 16)) + (count + payload + 16) ⌝ }
+fn size_of(
+    count: usize,
+    destination: usize,
+    source: usize,
+    field: TokenField,
+    token: usize,
+    payload: usize,
+) -> usize
+    requires { ⌜ (count ≤ 4) × (destination ≤ inForce .limit) × (source ≤ inForce .limit) × (heldOf field token ≤ inForce .limit) × (payload ≤ inForce .limit) ⌝ }
+    ensures { λ r. ⌜ r ≡ 7 + destination + source + tokenSize field token + length (inForce .lengthForm (count + payload + 16)) + (count + payload + 16) ⌝ }
 {
     let counted = count + payload + TAG_LENGTH;
     7
         + destination
         + source
-        + integers_writing::smallest_form(token)
-        + token
+        + header_writing::token_form(field, token)
         + header_writing::length_form(counted)
         + counted
 }
@@ -47,20 +65,21 @@ fn judge_size(
     count: usize,
     destination: usize,
     source: usize,
+    field: TokenField,
     token: usize,
     payload: usize,
     room: usize,
 ) -> Sealing
     requires { ⌜ (count ≤ 4) × (destination ≤ longestId) × (source ≤ longestId) ⌝ }
-    ensures { λ r. ⌜ sealingAnswer r ≡ sized (7 + destination + source + length (smallest token) + token + length (inForce .lengthForm (count + payload + 16)) + (count + payload + 16)) room ⌝ }
+    ensures { λ r. ⌜ sealingAnswer r ≡ sized (7 + destination + source + tokenSize field token + length (inForce .lengthForm (count + payload + 16)) + (count + payload + 16)) room ⌝ }
 {
-    if LIMIT < token {
+    if LIMIT < held(field, token) {
         return Sealing::Refused(refusal::SIZE);
     }
     if LIMIT < payload {
         return Sealing::Refused(refusal::SIZE);
     }
-    let size = size_of(count, destination, source, token, payload);
+    let size = size_of(count, destination, source, field, token, payload);
     if LIMIT < size {
         return Sealing::Refused(refusal::SIZE);
     }
@@ -78,14 +97,18 @@ pub fn judge(
     count: usize,
     destination: &[u8],
     source: &[u8],
+    field: TokenField,
     token: &[u8],
     payload: &[u8],
     room: usize,
 ) -> Sealing
-    ensures { λ r. ⌜ sealingAnswer r ≡ lengthGiven (sealed aesGcm inForce (keysOf keys) (acknowledgedOf acknowledged) (record { destination = now (destination .entry); source = now (source .entry); token = now (token .entry); payload = now (payload .entry); packetNumber = number .0; numberLength = count }) room) ⌝ }
+    ensures { λ r. ⌜ sealingAnswer r ≡ lengthGiven (sealed aesGcm inForce (keysOf keys) (acknowledgedOf acknowledged) (record { destination = now (destination .entry); source = now (source .entry); token = tokenOf field (now (token .entry)); payload = now (payload .entry); packetNumber = number .0; numberLength = count }) room) ⌝ }
 {
     if !versions::is_known(keys.version) {
         return Sealing::Refused(refusal::VERSION);
+    }
+    if !is_written_by(field, keys.level) {
+        return Sealing::Refused(refusal::TYPE);
     }
     match shorten(number, acknowledged, count) {
         Shortened::Refused(why) => return Sealing::Refused(why),
@@ -104,6 +127,7 @@ pub fn judge(
         count,
         destination.len(),
         source.len(),
+        field,
         token.len(),
         payload.len(),
         room,

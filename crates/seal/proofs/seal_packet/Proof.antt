@@ -1,8 +1,8 @@
 -- What is judged is refused, or can be written and is.
 use borrow.Author.Needs.{needs}
 use Rattle.seal.proofs.Answers.{refuse, writable, written}
-use Rattle.seal.proofs.seal.Statement.{statement}
-use Rattle.seal.proofs.seal.Tie as tie
+use Rattle.seal.proofs.seal_packet.Statement.{statement}
+use Rattle.seal.proofs.seal_packet.Tie as tie
 
 returns : tie.Need-returns
 returns c = refuse _ _ _ _ (c .before .before .judge .ensures) (c .enum-told .given .1)
@@ -17,8 +17,8 @@ returns-2 c =
     written _ _ _ _ (c .before .before .before .before .before .before .judge .ensures) (c .before .before .before .before .enum-told2 .given .1)
     (c .before .before .write-packet .ensures)
 
-pub seal-spec : {M : Type 1} → statement M
-seal-spec =
+pub seal-packet-spec : {M : Type 1} → statement M
+seal-packet-spec =
     tie.close
     (tie.spec
     (λ c κs. search needs)

@@ -2,30 +2,30 @@
 use borrow.Author.Needs.{needs}
 use native.Mathlib.Omega.{arith}
 use Rattle.header_writing.specs.Written.{firstByte}
-use Rattle.versions.proofs.Versions.{initial-fits}
+use Rattle.versions.proofs.Versions.{type-fits}
 use Rattle.seal_header.proofs.Headers.{fields-end, header-written}
 use Rattle.seal_header.proofs.write_header.Statement.{statement}
 use Rattle.seal_header.proofs.write_header.Tie as tie
 
 mul-first : tie.Need-mul-first
-mul-first c = omega (arith, c .initial-type .ensures, initial-fits (c .before .before .before .before .before .before .args .version))
+mul-first c = omega (arith, c .type-for .ensures, type-fits (c .before .before .before .before .before .before .args .version) (c .before .before .before .before .before .before .args .level))
 
 add-first : tie.Need-add-first
-add-first c = omega (arith, c .initial-type .ensures, initial-fits (c .before .before .before .before .before .before .args .version))
+add-first c = omega (arith, c .type-for .ensures, type-fits (c .before .before .before .before .before .before .args .version) (c .before .before .before .before .before .before .args .level))
 
 add-first-2 : tie.Need-add-first-2
-add-first-2 c = omega (arith, c .initial-type .ensures, initial-fits (c .before .before .before .before .before .before .args .version))
+add-first-2 c = omega (arith, c .type-for .ensures, type-fits (c .before .before .before .before .before .before .args .version) (c .before .before .before .before .before .before .args .level))
 
 store-requires : tie.Need-store-requires
 store-requires c κs =
-    let written = c .before .before .before .write-initial in
+    let written = c .before .before .before .write-fields in
     (omega arith, omega (arith, fields-end _ _ _ _ _ _ (written .ensures .ends), written .kept))
 
 returns : tie.Need-returns
 unfolding firstByte
 returns c =
-    let type = c .before .before .before .before .before .before .before .before .initial-type .ensures in
-    header-written _ _ _ _ _ _ _ _ (c .before .before .before .before .before .before .write-initial .ensures) (c .before .before .store .ensures)
+    let type = c .before .before .before .before .before .before .before .before .type-for .ensures in
+    header-written _ _ _ _ _ _ _ _ _ (c .before .before .before .before .before .before .write-fields .ensures) (c .before .before .store .ensures)
     (omega (arith, type)) (omega arith)
 
 pub write-header-spec : {M : Type 1} → statement M
