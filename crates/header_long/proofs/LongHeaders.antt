@@ -9,9 +9,9 @@ use borrow.Author.Tests.{le-leb, lt-leb, leb-true, eq-eqb, ne-eqb}
 use Rattle.octets.specs.Outcome.{refused, given}
 use Rattle.octets.specs.Octets.{number, part}
 use Rattle.octets.proofs.Outcome.{passed, stepped, given-same, both}
-use Rattle.versions.specs.Versions.{Version, known, version}
+use Rattle.versions.specs.Versions.{Version, known, version, levelOf}
 use Rattle.header_fields.specs.Fields.{Place, behind, idAt}
-use Rattle.header_long.specs.LongHeader.{Judge, ofType, Judged, Long, versionOf, judged, long}
+use Rattle.header_long.specs.LongHeader.{Judge, onlyLevel, onlyRetry, Judged, Long, versionOf, judged, long}
 use Rattle.header_fields.proofs.Fields.{Within, id-within}
 
 -- ---- the version
@@ -28,6 +28,29 @@ module _ (d : List ℕ) where
 pub version-there : (d : List ℕ) {v : ℕ} → given v ≡ versionOf d → 5 ≤ length d
 unfolding versionOf
 version-there d is = let all = passed 3 (leb 5 (length d)) _ (sym is) in leb-true 5 (length d) (all .0)
+
+-- ---- what a type is taken for
+module _ (row : Version) (type : ℕ) where
+  pub level-refused : (wanted : ℕ) {n : ℕ} → refused n ≡ levelOf row type → onlyLevel wanted row type ≡ refused n
+  unfolding onlyLevel
+  level-refused wanted e = rw (← e)
+
+  module _ {level : ℕ} (wanted : ℕ) (is : given level ≡ levelOf row type) where
+    pub level-other : (level ≡ wanted → ⊥) → onlyLevel wanted row type ≡ refused 6
+    unfolding onlyLevel
+    level-other h = rw (← is, ne-eqb level wanted h)
+
+    pub level-wanted : level ≡ wanted → onlyLevel wanted row type ≡ given level
+    unfolding onlyLevel
+    level-wanted h = rw (← is, eq-eqb level wanted h)
+
+  pub retry-other : (type ≡ row .retryType → ⊥) → onlyRetry row type ≡ refused 6
+  unfolding onlyRetry
+  retry-other h = rw (ne-eqb type (row .retryType) h)
+
+  pub retry-right : type ≡ row .retryType → onlyRetry row type ≡ given type
+  unfolding onlyRetry
+  retry-right h = rw (eq-eqb type (row .retryType) h)
 
 -- ---- the version and the type, judged
 module _ {A : Type 0} (judge : Judge A) (d : List ℕ) where
@@ -53,14 +76,6 @@ module _ {A : Type 0} (judge : Judge A) (d : List ℕ) where
         pub judged-right : {a : A} → given a ≡ judge .kind (version v) (getD d 0 0 / 16 % 4) → judged judge d ≡ given (record { version = v; kind = a })
         unfolding judged
         judged-right h = rw (← is, ours, taken, ← h)
-
--- by a reader of one type alone
-module _ (takes : ℕ → Bool) (wanted : Version → ℕ) (d : List ℕ) {v : ℕ} (is : given v ≡ versionOf d) (ours : known v ≡ true) (taken : takes v ≡ true) where
-  pub type-other : (getD d 0 0 / 16 % 4 ≡ wanted (version v) → ⊥) → judged (ofType takes wanted) d ≡ refused 6
-  type-other h = judged-type (ofType takes wanted) d is ours taken (rw (ne-eqb (getD d 0 0 / 16 % 4) (wanted (version v)) h))
-
-  pub type-right : getD d 0 0 / 16 % 4 ≡ wanted (version v) → judged (ofType takes wanted) d ≡ given (record { version = v; kind = tt })
-  type-right h = judged-right (ofType takes wanted) d is ours taken (rw (eq-eqb (getD d 0 0 / 16 % 4) (wanted (version v)) h))
 
 -- a version that was judged right
 pub record Right (takes : ℕ → Bool) (d : List ℕ) (v : ℕ) : Type 0 where

@@ -3,9 +3,10 @@ use Prim.Native.Nat.{ℕ}
 use mathlib.Core.Bool.{Bool, true}
 use lib.Dec.{eqb}
 use Rattle.octets.specs.Outcome.{Outcome, refused, given}
-use Rattle.versions.specs.Versions.{Version}
+use Rattle.versions.specs.Versions.{Version, levelOf}
 use Rattle.header_fields.specs.Answers.{placeOf}
 use Rattle.header_long.specs.LongHeader as Section17
+use Rattle.header_long.specs.LongHeader.{onlyLevel, onlyRetry}
 use Rattle.header_long.specs.declared.Versions.{Versions}
 use Rattle.header_long.specs.declared.Versions.the-variants as Versions
 use Rattle.header_long.specs.declared.Types.{Types}
@@ -13,6 +14,8 @@ use Rattle.header_long.specs.declared.Types.the-variants as Types
 use Rattle.header_long.specs.declared.Judge.{Judge}
 use Rattle.header_long.specs.declared.Version.{Version as VersionRead}
 use Rattle.header_long.specs.declared.Version.the-variants as VersionRead
+use Rattle.header_long.specs.declared.Judgement.{Judgement}
+use Rattle.header_long.specs.declared.Judgement.the-variants as Judgement
 use Rattle.header_long.specs.declared.Long.{Long}
 use Rattle.header_long.specs.declared.LongReading.{LongReading}
 use Rattle.header_long.specs.declared.LongReading.the-variants as LongReading
@@ -23,25 +26,26 @@ abbrev pub takes : Versions → ℕ → Bool
 takes Versions.Known = λ v. true
 takes (Versions.Only w) = λ v. eqb v w
 
-abbrev pub typeOf : Types → Version → ℕ
-typeOf Types.Initial = λ v. v .initialType
-typeOf Types.Retry = λ v. v .retryType
+abbrev pub kindOf : Types → Version → (type : ℕ) → Outcome ℕ
+kindOf Types.Leveled = levelOf
+kindOf (Types.Level l) = onlyLevel l
+kindOf Types.Retry = onlyRetry
 
-abbrev pub judgeOf : Judge → Section17.Judge (Unit {0})
-judgeOf j = Section17.ofType (takes (j .versions)) (typeOf (j .types))
+abbrev pub judgeOf : Judge → Section17.Judge ℕ
+judgeOf j = record { takes = takes (j .versions); kind = kindOf (j .types) }
 
 -- ---- what is answered
 abbrev pub versionAnswer : VersionRead → Outcome ℕ
 versionAnswer (VersionRead.Refused n) = refused n
 versionAnswer (VersionRead.Of v) = given v
 
-abbrev pub judgedAnswer : VersionRead → Outcome (Section17.Judged (Unit {0}))
-judgedAnswer (VersionRead.Refused n) = refused n
-judgedAnswer (VersionRead.Of v) = given (record { version = v; kind = tt })
+abbrev pub judgedAnswer : Judgement → Outcome (Section17.Judged ℕ)
+judgedAnswer (Judgement.Refused n) = refused n
+judgedAnswer (Judgement.Right j) = given (record { version = j .version; kind = j .kind })
 
-abbrev pub longOf : Long → Section17.Long (Unit {0})
-longOf l = record { version = l .version; kind = tt; destination = placeOf (l .destination); source = placeOf (l .source) }
+abbrev pub longOf : Long → Section17.Long ℕ
+longOf l = record { version = l .version; kind = l .kind; destination = placeOf (l .destination); source = placeOf (l .source) }
 
-abbrev pub longAnswer : LongReading → Outcome (Section17.Long (Unit {0}))
+abbrev pub longAnswer : LongReading → Outcome (Section17.Long ℕ)
 longAnswer (LongReading.Refused n) = refused n
 longAnswer (LongReading.Read l) = given (longOf l)

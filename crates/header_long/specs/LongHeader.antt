@@ -6,7 +6,7 @@ use lib.Dec.{eqb}
 use lib.ListN.{getD}
 use Rattle.octets.specs.Outcome.{Outcome, given, unless, _>>=_, _>>_}
 use Rattle.octets.specs.Octets.{number, part}
-use Rattle.versions.specs.Versions.{Version, known, version}
+use Rattle.versions.specs.Versions.{Version, known, version, levelOf}
 use Rattle.header_fields.specs.Fields.{Place, behind, whole, idAt}
 
 -- ---- who reads
@@ -15,9 +15,28 @@ pub record Judge (A : Type 0) : Type 0 where
   pub takes : ℕ → Bool
   pub kind : Version → (type : ℕ) → Outcome A
 
--- one type alone
-abbrev pub ofType : (takes : ℕ → Bool) → (wanted : Version → ℕ) → Judge (Unit {0})
-ofType takes wanted = record { takes = takes; kind = λ row type. unless 6 (eqb type (wanted row)) }
+-- any level: every type but Retry
+abbrev pub ofAnyLevel : (takes : ℕ → Bool) → Judge ℕ
+ofAnyLevel takes = record { takes = takes; kind = levelOf }
+
+-- one level alone; a number that names no level is no packet's
+unfoldable pub onlyLevel : (wanted : ℕ) → Version → (type : ℕ) → Outcome ℕ
+onlyLevel wanted row type = do
+  level ← levelOf row type
+  unless 6 (eqb level wanted)
+  given level
+
+abbrev pub ofLevel : (takes : ℕ → Bool) → (wanted : ℕ) → Judge ℕ
+ofLevel takes wanted = record { takes = takes; kind = onlyLevel wanted }
+
+-- Retry alone, by its type
+unfoldable pub onlyRetry : Version → (type : ℕ) → Outcome ℕ
+onlyRetry row type = do
+  unless 6 (eqb type (row .retryType))
+  given type
+
+abbrev pub ofRetry : (takes : ℕ → Bool) → Judge ℕ
+ofRetry takes = record { takes = takes; kind = onlyRetry }
 
 -- ---- section 17.2: what every long header begins with, where it stands
 pub record Judged (A : Type 0) : Type 0 where

@@ -3,13 +3,15 @@ use header_fields::Found;
 use header_fields::Place;
 use header_fields::id_at;
 use octets::refusal;
-use versions::initial_type;
+use versions::Leveled;
 use versions::is_known;
+use versions::level_of;
 use versions::retry_type;
 ghost use mathlib.Core.Path.{_≡_};
 ghost use Rattle.versions.specs.Versions as Constants;
-ghost use Rattle.header_long.specs.LongHeader.{versionOf, judged, long};
-ghost use Rattle.header_long.specs.Answers.{takes, typeOf, judgeOf, versionAnswer, judgedAnswer, longAnswer};
+ghost use Rattle.versions.specs.Answers.{levelAnswer};
+ghost use Rattle.header_long.specs.LongHeader.{onlyLevel, onlyRetry, versionOf, judged, long};
+ghost use Rattle.header_long.specs.Answers.{takes, kindOf, judgeOf, versionAnswer, judgedAnswer, longAnswer};
 
 // Which versions a reader takes: every known one, or that of some keys.
 pub enum Versions {
@@ -17,9 +19,10 @@ pub enum Versions {
     Only(u32),
 }
 
-// Which packets it takes, by their type.
+// Which packets it takes, by their type: those of any level, of one level alone, or Retry.
 pub enum Types {
-    Initial,
+    Leveled,
+    Level(u8),
     Retry,
 }
 
@@ -35,14 +38,27 @@ enum Version {
     Of(u32),
 }
 
+// A version that is taken, and what the reader takes the type for: a level, or Retry's type for itself.
+struct Judged {
+    version: u32,
+    kind: u8,
+}
+
+// What judging both answers.
+enum Judgement {
+    Refused(u8),
+    Right(Judged),
+}
+
 // What every long header begins with.
 pub struct Long {
     pub version: u32,
+    pub kind: u8,
     pub destination: Place,
     pub source: Place,
 }
 
-// What reading it answers: a refusal's number, or the version and the IDs' places.
+// What reading it answers: a refusal's number, or the version, what its type is taken for and the IDs' places.
 pub enum LongReading {
     Refused(u8),
     Read(Long),
@@ -58,13 +74,38 @@ fn is_taken(versions: Versions, version: u32) -> bool
     }
 }
 
-// The type that a version gives to the packets taken.
-fn type_of(types: Types, version: u32) -> u8
-    ensures { λ r. ⌜ r ≡ typeOf types (Constants.version version) ⌝ }
+// A level, where it is the one that is wanted.
+fn only_level(wanted: u8, version: u32, kind: u8) -> Leveled
+    ensures { λ r. ⌜ levelAnswer r ≡ onlyLevel wanted (Constants.version version) kind ⌝ }
+{
+    let level = match level_of(version, kind) {
+        Leveled::Refused(why) => return Leveled::Refused(why),
+        Leveled::Of(level) => level,
+    };
+    if level != wanted {
+        return Leveled::Refused(refusal::TYPE);
+    }
+    Leveled::Of(level)
+}
+
+// A type, where it is Retry's.
+fn only_retry(version: u32, kind: u8) -> Leveled
+    ensures { λ r. ⌜ levelAnswer r ≡ onlyRetry (Constants.version version) kind ⌝ }
+{
+    if kind != retry_type(version) {
+        return Leveled::Refused(refusal::TYPE);
+    }
+    Leveled::Of(kind)
+}
+
+// What a type is taken for.
+fn kind_of(types: Types, version: u32, kind: u8) -> Leveled
+    ensures { λ r. ⌜ levelAnswer r ≡ kindOf types (Constants.version version) kind ⌝ }
 {
     match types {
-        Types::Initial => initial_type(version),
-        Types::Retry => retry_type(version),
+        Types::Leveled => level_of(version, kind),
+        Types::Level(wanted) => only_level(wanted, version, kind),
+        Types::Retry => only_retry(version, kind),
     }
 }
 
@@ -78,35 +119,35 @@ fn read_version(datagram: &[u8]) -> Version
     Version::Of(octets::word(datagram, 1))
 }
 
-// The version, where it is taken, and the type is that version's.
-fn judge_version(datagram: &[u8], judge: Judge) -> Version
+// The version, where it is taken, and what the reader takes that version's type for.
+fn judge_version(datagram: &[u8], judge: Judge) -> Judgement
     ensures { λ r. ⌜ judgedAnswer r ≡ judged (judgeOf judge) (now (datagram .entry)) ⌝ }
 {
     let version = match read_version(datagram) {
-        Version::Refused(why) => return Version::Refused(why),
+        Version::Refused(why) => return Judgement::Refused(why),
         Version::Of(version) => version,
     };
     if !is_known(version) {
-        return Version::Refused(refusal::VERSION);
+        return Judgement::Refused(refusal::VERSION);
     }
     let versions = judge.versions;
     if !is_taken(versions, version) {
-        return Version::Refused(refusal::VERSION);
+        return Judgement::Refused(refusal::VERSION);
     }
     let types = judge.types;
-    if datagram[0] / 16 % 4 != type_of(types, version) {
-        return Version::Refused(refusal::TYPE);
+    match kind_of(types, version, datagram[0] / 16 % 4) {
+        Leveled::Refused(why) => Judgement::Refused(why),
+        Leveled::Of(kind) => Judgement::Right(Judged { version, kind }),
     }
-    Version::Of(version)
 }
 
 // Section 17.2: what every long header begins with, behind a first byte that was judged, as far as the reader takes it.
 pub fn read_long(datagram: &[u8], judge: Judge) -> LongReading
     ensures { λ r. ⌜ longAnswer r ≡ long (judgeOf judge) (now (datagram .entry)) ⌝ }
 {
-    let version = match judge_version(datagram, judge) {
-        Version::Refused(why) => return LongReading::Refused(why),
-        Version::Of(version) => version,
+    let judged = match judge_version(datagram, judge) {
+        Judgement::Refused(why) => return LongReading::Refused(why),
+        Judgement::Right(judged) => judged,
     };
     let destination = match id_at(datagram, 5) {
         Found::Refused(why) => return LongReading::Refused(why),
@@ -117,7 +158,8 @@ pub fn read_long(datagram: &[u8], judge: Judge) -> LongReading
         Found::At(place) => place,
     };
     LongReading::Read(Long {
-        version,
+        version: judged.version,
+        kind: judged.kind,
         destination,
         source,
     })

@@ -1,7 +1,7 @@
-// RFC 9000 section 17.2.2: the parts of an Initial packet's header, handed out as they stand in the datagram.
+// RFC 9000 sections 17.2.2 to 17.2.4: the parts of a header, handed out as they stand in the datagram.
 use header_fields::part_at;
-use header_initial::Reading;
-use header_initial::read_header;
+use header_reading::Reading;
+use header_reading::read_header;
 ghost use Rattle.header_parts.specs.Answers.{HeaderDestination, HeaderSource, HeaderToken};
 
 // The destination ID that reading the header finds, and nothing where reading refuses.
@@ -30,7 +30,7 @@ pub fn header_source(datagram: &[u8]) -> &[u8]
     }
 }
 
-// The token that reading the header finds, and nothing where reading refuses.
+// The token that reading the header finds, and nothing where the level has none or reading refuses.
 pub fn header_token(datagram: &[u8]) -> &[u8]
     ensures { λ r. ⌜ HeaderToken (now (datagram .entry)) (now r) ⌝ }
 {

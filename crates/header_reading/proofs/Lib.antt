@@ -1,2 +1,2 @@
-pub mod InitialHeaders
+pub mod PacketHeaders
 pub mod OneAnswer

@@ -1,2 +1,2 @@
-pub mod InitialHeader
+pub mod PacketHeader
 pub mod Answers

@@ -1,30 +1,30 @@
 -- A header that was written is read back: each field where it stands, whatever stands behind.
 use Prim.Native.Nat.{ℕ, suc, _+_, _/_, _%_, _^_, _≤_, _<_}
-use mathlib.Core.Path.{_≡_, refl, sym, ap, _∙_}
+use mathlib.Core.Path.{_≡_, refl, sym, ap, subst, _∙_}
 use mathlib.Core.List.{List, [], _∷_, _++_, append-assoc}
-use mathlib.Core.Bool.{Bool, true}
+use mathlib.Core.Bool.{true, _||_}
 use native.Mathlib.Omega.{arith}
 use lib.ListN.{length, getD, length-append}
-use borrow.Author.Tests.{eq-eqb}
 use Rattle.octets.specs.Outcome.{given}
 use Rattle.octets.specs.Octets.{bytes, number, part}
 use Rattle.octets.proofs.Parts.{regroup}
+use Rattle.octets.proofs.Places.{At, begins, past, byte-at, part-at}
 use Rattle.octets.proofs.Numbers.{bytes-length, number-back}
 use Rattle.integers.specs.Integer.{integer}
 use Rattle.integers_writing.specs.Written.{smallest}
 use Rattle.integers_writing.proofs.IntegersBack.{smallest-back}
-use Rattle.versions.specs.Versions.{Version, known, version}
-use Rattle.versions.proofs.Versions.{version-fits}
+use Rattle.versions.specs.Levels.{hasToken, hasNoToken}
+use Rattle.versions.specs.Versions.{known, version, typeFor}
+use Rattle.versions.proofs.Versions.{version-fits, type-fits, retry-fits, level-back, without-token}
 use Rattle.header_forms.specs.Rules.{Rules, Readable}
 use Rattle.header_fields.specs.Fields.{longestId, leastLength, idAt, fieldAt, restAt}
 use Rattle.header_fields.proofs.Fields.{id-whole, integer-found, field-whole, rest-whole}
-use Rattle.header_long.specs.LongHeader.{Judge, ofType, Long, versionOf, long}
-use Rattle.header_long.proofs.LongHeaders.{version-found, judged-right, long-found}
-use Rattle.header_initial.specs.InitialHeader.{Header, header}
-use Rattle.header_initial.proofs.InitialHeaders.{header-found}
-use Rattle.header_writing.specs.Written.{Plain, longFirst, withLength, longFields, lengthOf, initialFields, fields}
-use Rattle.octets.proofs.Places.{At, begins, past, byte-at, part-at}
-use Rattle.header_writing.proofs.Forms.{initial-length}
+use Rattle.header_long.specs.LongHeader.{Judge, onlyLevel, onlyRetry, Long, versionOf, long}
+use Rattle.header_long.proofs.LongHeaders.{version-found, level-wanted, retry-right, judged-right, long-found}
+use Rattle.header_reading.specs.PacketHeader.{Token, tokenAt, Header, header}
+use Rattle.header_reading.proofs.PacketHeaders.{token-none, token-found, header-found}
+use Rattle.header_writing.specs.Written.{TokenField, holding, absent, writes, tokenBytes, Plain, longFirst, withLength, longFields, packetFields, lengthOf, fields}
+use Rattle.header_writing.proofs.Forms.{fields-length}
 
 -- ---- one field
 module _ (d : List ℕ) (at : ℕ) where
@@ -56,10 +56,27 @@ module _ (d : List ℕ) (at : ℕ) where
 pub first-form : (type low : ℕ) → low < 16 → longFirst type low / 16 ≡ 12 + type
 first-form type low h = omega arith
 
--- a reader of one type alone takes it
-pub type-taken : (takes : ℕ → Bool) (wanted : Version → ℕ) (v first : ℕ) → first / 16 ≡ 12 + wanted (version v) → wanted (version v) ≤ 3
-    → given tt ≡ ofType takes wanted .kind (version v) (first / 16 % 4)
-type-taken takes wanted v first form narrow = rw (eq-eqb (first / 16 % 4) (wanted (version v)) (omega arith))
+-- a type is read back from the first byte
+pub type-back : (first type : ℕ) → first / 16 ≡ 12 + type → type ≤ 3 → first / 16 % 4 ≡ type
+type-back first type form narrow = omega arith
+
+-- whoever writes a token's field, or none, has a level that is named
+named : (field : TokenField) (level : ℕ) → writes field level ≡ true → hasToken level || hasNoToken level ≡ true
+named (holding token) level h = rw h
+named absent level h = rw (without-token level h, h)
+
+-- a reader of one level takes the type that was written for it, and for that level
+pub level-taken : (v first level : ℕ) (field : TokenField) → first / 16 ≡ 12 + typeFor (version v) level → writes field level ≡ true
+    → given level ≡ onlyLevel level (version v) (first / 16 % 4)
+level-taken v first level field form suits =
+    let type = type-back first (typeFor (version v) level) form (type-fits v level) in
+    sym (level-wanted (version v) (first / 16 % 4) level (rw type (sym (level-back v level (named field level suits)))) refl)
+
+-- a reader of Retry takes Retry's
+pub retry-taken : (v first : ℕ) → first / 16 ≡ 12 + version v .retryType → given (version v .retryType) ≡ onlyRetry (version v) (first / 16 % 4)
+retry-taken v first form =
+    let type = type-back first (version v .retryType) form (retry-fits v) in
+    sym (retry-right (version v) (first / 16 % 4) type ∙ ap given type)
 
 -- a datagram that begins with a first byte whose type the reader takes for something, a version that it takes and two IDs
 pub record LongWritten {A : Type 0} (judge : Judge A) (v first : ℕ) (kind : A) (destination source d rest : List ℕ) : Type 0 where
@@ -127,88 +144,100 @@ module _ {A : Type 0} (judge : Judge A) (v first : ℕ) (kind : A) (destination 
       let two = id-read d (6 + length destination) source rest (at-source v first destination source d rest (w .is)) (w .short-source) in
       long-found judge d (sym right) (sym one) (sym two)
 
--- ---- the Initial packet's header
-module _ (p : Plain) where
-  -- the token's length, the token and Length
-  abbrev pub tokenLengthAt : ℕ
-  tokenLengthAt = 6 + length (p .destination) + 1 + length (p .source)
+-- ---- the header of a packet with a number
+-- the token's place, and where the fields go on
+abbrev pub tokenPlace : (at : ℕ) → TokenField → Token
+tokenPlace at (holding token) = record {
+  place = record { at = at + length (smallest (length token)); len = length token };
+  end = at + length (smallest (length token)) + length token;
+}
+tokenPlace at absent = record { place = record { at = 0; len = 0 }; end = at }
 
-  abbrev pub tokenAt : ℕ
-  tokenAt = tokenLengthAt + length (smallest (length (p .token)))
+pub token-end : (at : ℕ) (field : TokenField) → tokenPlace at field .end ≡ at + length (tokenBytes field)
+token-end at (holding token) = omega (arith, length-append (smallest (length token)) token)
+token-end at absent = omega arith
+
+-- a token field that was written is read back at a level whose keys write it
+pub token-read : (level : ℕ) (d : List ℕ) (at : ℕ) (field : TokenField) (rest : List ℕ) → writes field level ≡ true → At d at (tokenBytes field ++ rest)
+    → length (tokenBytes field) < 2 ^ 30 → tokenAt level d at ≡ given (tokenPlace at field)
+token-read level d at (holding token) rest has h small =
+    let l = length-append (smallest (length token)) token in
+    let there : At d at (smallest (length token) ++ (token ++ rest)) = subst (At d at) (append-assoc (smallest (length token)) token rest) h in
+    token-found level d at has (sym (field-read d at token rest there (omega arith)))
+token-read level d at absent rest has h small = token-none level d at (without-token level has)
+
+module _ (p : Plain) where
+  -- the token's field and Length
+  abbrev pub tokenFieldAt : ℕ
+  tokenFieldAt = 6 + length (p .destination) + 1 + length (p .source)
 
   abbrev pub lengthAt : ℕ
-  lengthAt = tokenAt + length (p .token)
+  lengthAt = tokenFieldAt + length (tokenBytes (p .token))
 
 module _ (rules : Rules) (p : Plain) where
   abbrev pub numberAt : ℕ
   numberAt = lengthAt p + length (rules .lengthForm (lengthOf p))
 
-  abbrev pub placesOf : ℕ → Header
-  placesOf v = record {
+  abbrev pub placesOf : (v level : ℕ) → Header
+  placesOf v level = record {
     version = v;
+    level = level;
     destination = record { at = 6; len = length (p .destination) };
     source = record { at = 6 + length (p .destination) + 1; len = length (p .source) };
-    token = record { at = tokenAt p; len = length (p .token) };
+    token = tokenPlace (tokenFieldAt p) (p .token) .place;
     length′ = lengthOf p;
     numberAt = numberAt;
   }
 
-  -- what stands from Length on, and from the token's length on
+  -- what stands from Length on, and from the token's field on
   abbrev fromLength : List ℕ → List ℕ
   fromLength rest = rules .lengthForm (lengthOf p) ++ rest
 
-  abbrev fromTokenLength : List ℕ → List ℕ
-  fromTokenLength rest = smallest (length (p .token)) ++ (p .token ++ fromLength rest)
+  abbrev fromToken : List ℕ → List ℕ
+  fromToken rest = tokenBytes (p .token) ++ fromLength rest
 
 module _ (rules : Rules) (v first : ℕ) (p : Plain) (d rest : List ℕ) (is : d ≡ first ∷ fields rules v p ++ rest) where
   -- behind the IDs
-  pub is-long : d ≡ first ∷ longFields v (p .destination) (p .source) ++ fromTokenLength rules p rest
-  unfolding initialFields
+  pub is-long : d ≡ first ∷ longFields v (p .destination) (p .source) ++ fromToken rules p rest
+  unfolding packetFields
   is-long =
       is ∙ ap (λ (s : List ℕ). first ∷ s)
-      (regroup′ (longFields v (p .destination) (p .source)) (smallest (length (p .token))) (p .token) (rules .lengthForm (lengthOf p)) rest)
-    where
-      regroup′ : (a b c e f : List ℕ) → a ++ b ++ c ++ e ++ f ≡ a ++ (b ++ (c ++ (e ++ f)))
-      regroup′ a b c e f = simp append-assoc
+      (regroup (longFields v (p .destination) (p .source)) (tokenBytes (p .token)) (rules .lengthForm (lengthOf p)) rest)
 
-  at-token-length : At d (tokenLengthAt p) (fromTokenLength rules p rest)
-  at-token-length = behind-ids v first (p .destination) (p .source) d (fromTokenLength rules p rest) is-long
-
-  at-token : At d (tokenAt p) (p .token ++ fromLength rules p rest)
-  at-token = past d (tokenLengthAt p) (tokenAt p) (smallest (length (p .token))) (p .token ++ fromLength rules p rest) at-token-length refl
+  at-token : At d (tokenFieldAt p) (fromToken rules p rest)
+  at-token = behind-ids v first (p .destination) (p .source) d (fromToken rules p rest) is-long
 
   at-length : At d (lengthAt p) (fromLength rules p rest)
-  at-length = past d (tokenAt p) (lengthAt p) (p .token) (fromLength rules p rest) at-token refl
+  at-length = past d (tokenFieldAt p) (lengthAt p) (tokenBytes (p .token)) (fromLength rules p rest) at-token refl
 
   -- what stands behind Length
   pub at-number : At d (numberAt rules p) rest
   at-number = past d (lengthAt p) (numberAt rules p) (rules .lengthForm (lengthOf p)) rest at-length refl
 
-  pub token-back : part d (tokenAt p) (length (p .token)) ≡ p .token
-  token-back = part-at d (tokenAt p) (length (p .token)) (p .token) (fromLength rules p rest) at-token refl
-
 -- the number stands behind the first byte and the fields
 pub number-place : (rules : Rules) (v : ℕ) (p : Plain) → numberAt rules p ≡ 1 + length (fields rules v p)
-number-place rules v p = omega (arith, initial-length rules v (p .destination) (p .source) (p .token) (lengthOf p))
+number-place rules v p = omega (arith, fields-length rules v (p .destination) (p .source) (p .token) (lengthOf p))
 
--- a datagram that begins with the fields of p behind a first byte that the reader takes, and goes on as long as Length says
-pub record Written {A : Type 0} (rules : Rules) (judge : Judge A) (v first : ℕ) (kind : A) (p : Plain) (d rest : List ℕ) : Type 0 where
+-- a datagram that begins with the fields of p behind a first byte that the reader takes for a level, and goes on as long as Length says
+pub record Written (rules : Rules) (judge : Judge ℕ) (v first level : ℕ) (p : Plain) (d rest : List ℕ) : Type 0 where
   pub is : d ≡ first ∷ fields rules v p ++ rest
   pub fits : length d ≤ rules .limit
   pub ours : known v ≡ true
   pub taken : judge .takes v ≡ true
-  pub judges : given kind ≡ judge .kind (version v) (first / 16 % 4)
+  pub judges : given level ≡ judge .kind (version v) (first / 16 % 4)
+  pub suits : writes (p .token) level ≡ true
   pub short-destination : length (p .destination) ≤ longestId
   pub short-source : length (p .source) ≤ longestId
   pub enough : leastLength ≤ lengthOf p
   pub all : lengthOf p ≤ length rest
 
-pub header-read : {A : Type 0} (rules : Rules) → Readable rules → (judge : Judge A) (v first : ℕ) (kind : A) (p : Plain) (d rest : List ℕ)
-    → Written rules judge v first kind p d rest → header judge d ≡ given (placesOf rules p v)
-header-read rules readable judge v first kind p d rest w =
-    let token-end = at-length rules v first p d rest (w .is) in
+-- whichever of the three types it is
+pub header-read : (rules : Rules) → Readable rules → (judge : Judge ℕ) (v first level : ℕ) (p : Plain) (d rest : List ℕ)
+    → Written rules judge v first level p d rest → header judge d ≡ given (placesOf rules p v level)
+header-read rules readable judge v first level p d rest w =
+    let token-ends = at-length rules v first p d rest (w .is) in
     let end = at-number rules v first p d rest (w .is) in
-    let begin = long-read judge v first kind (p .destination) (p .source) d _ (record {
+    let begin = long-read judge v first level (p .destination) (p .source) d _ (record {
       is = is-long rules v first p d rest (w .is);
       ours = w .ours;
       taken = w .taken;
@@ -216,6 +245,6 @@ header-read rules readable judge v first kind p d rest w =
       short-destination = w .short-destination;
       short-source = w .short-source;
     }) in
-    let token = field-read d (tokenLengthAt p) (p .token) _ (at-token-length rules v first p d rest (w .is)) (omega (arith, w .fits, readable .small)) in
+    let token = token-read level d (tokenFieldAt p) (p .token) _ (w .suits) (at-token rules v first p d rest (w .is)) (omega (arith, w .fits, readable .small)) in
     let behind = rest-read d (lengthAt p) rules readable (lengthOf p) rest (at-length rules v first p d rest (w .is)) (omega (arith, w .fits, w .all)) (w .enough) (w .all) in
-    header-found judge d (sym begin) (sym token) (sym behind)
+    header-found judge d (sym begin) (sym token) (sym behind ∙ ap (restAt d) (sym (token-end (tokenFieldAt p) (p .token))))

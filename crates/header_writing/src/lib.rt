@@ -2,13 +2,21 @@
 use integers_writing::smallest_form;
 use integers_writing::write_smallest;
 use integers_writing::write_two;
+use versions::level;
 ghost use mathlib.Core.Path.{_≡_};
 ghost use mathlib.Core.List.{_∷_};
-ghost use Prim.Native.Nat.{_+_, _≤_};
+ghost use Prim.Native.Nat.{_+_, _^_, _≤_, _<_};
 ghost use lib.ListN.{length};
 ghost use Rattle.octets.specs.Octets.{laid, Begins};
 ghost use Rattle.header_forms.specs.Rules.{inForce};
-ghost use Rattle.header_writing.specs.Written.{withLength, longFields, initialFields, InitialFits};
+ghost use Rattle.header_writing.specs.Written.{withLength, longFields, tokenBytes, packetFields, FieldsFit};
+ghost use Rattle.header_writing.specs.Answers.{tokenOf, WrittenBy, tokenSize};
+
+// Whether a packet has a field for a token: an Initial has, and no other packet with a number.
+pub enum TokenField {
+    Holding,
+    Absent,
+}
 
 // How many bytes the rules in force write Length in: two, whatever it counts.
 pub fn length_form(_counted: usize) -> usize
@@ -53,24 +61,58 @@ pub fn write_long(
     source_at + 1 + source.len()
 }
 
-// Section 17.2.2: an Initial packet's fields before the number; where they end.
-pub fn write_initial(
+// Whether keys of a level write packets with such a field.
+pub fn is_written_by(field: TokenField, level: u8) -> bool
+    ensures { λ r. ⌜ WrittenBy field level r ⌝ }
+{
+    match field {
+        TokenField::Holding => level == level::INITIAL,
+        TokenField::Absent => level == level::ZERO_RTT || level == level::HANDSHAKE,
+    }
+}
+
+// How many bytes a token of that length takes with its field.
+pub fn token_form(field: TokenField, len: usize) -> usize
+    requires { ⌜ tokenSize field len < 2 ^ 30 ⌝ }
+    ensures { λ r. ⌜ r ≡ tokenSize field len ⌝ }
+{
+    match field {
+        TokenField::Holding => smallest_form(len) + len,
+        TokenField::Absent => 0,
+    }
+}
+
+// Section 17.2.2: the token behind its length, where the packet has a field for it.
+fn write_token(buffer: &mut [u8], at: usize, field: TokenField, token: &[u8])
+    requires { ⌜ (length (tokenBytes (tokenOf field (now token))) < 2 ^ 30) × (at + length (tokenBytes (tokenOf field (now token))) ≤ length (now buffer)) ⌝ }
+    ensures { λ _. ⌜ now (buffer .exit) ≡ laid (now (buffer .entry)) at (tokenBytes (tokenOf field (now (token .entry)))) ⌝ }
+{
+    match field {
+        TokenField::Holding => {
+            write_smallest(buffer, at, token.len());
+            octets::copy(buffer, at + smallest_form(token.len()), token);
+        }
+        TokenField::Absent => {}
+    }
+}
+
+// Sections 17.2.2 to 17.2.4: the fields before the number; where they end.
+pub fn write_fields(
     buffer: &mut [u8],
     first: u8,
     version: u32,
     destination: &[u8],
     source: &[u8],
+    field: TokenField,
     token: &[u8],
     counted: usize,
 ) -> usize
-    requires { ⌜ InitialFits (now destination) (now source) (now token) counted (now buffer) ⌝ }
-    ensures { λ r. ⌜ Begins (first ∷ initialFields inForce version (now (destination .entry)) (now (source .entry)) (now (token .entry)) counted) (now (buffer .entry)) (now (buffer .exit)) r ⌝ }
+    requires { ⌜ FieldsFit (now destination) (now source) (tokenOf field (now token)) counted (now buffer) ⌝ }
+    ensures { λ r. ⌜ Begins (first ∷ packetFields inForce version (now (destination .entry)) (now (source .entry)) (tokenOf field (now (token .entry))) counted) (now (buffer .entry)) (now (buffer .exit)) r ⌝ }
 {
-    let token_length_at = write_long(buffer, first, version, destination, source);
-    write_smallest(buffer, token_length_at, token.len());
-    let token_at = token_length_at + smallest_form(token.len());
-    octets::copy(buffer, token_at, token);
-    let length_at = token_at + token.len();
+    let token_at = write_long(buffer, first, version, destination, source);
+    write_token(buffer, token_at, field, token);
+    let length_at = token_at + token_form(field, token.len());
     write_length(buffer, length_at, counted);
     length_at + length_form(counted)
 }

@@ -49,11 +49,11 @@ token-there d at is =
     rw (← (given-same (some .1))) (record { after = omega arith; end = omega arith })
 
 -- ---- what a Retry begins with
-pub record HeaderThere (rules : Rules) (d : List ℕ) (l : Long (Unit {0})) : Type 0 where
+pub record HeaderThere (rules : Rules) (d : List ℕ) (l : Long ℕ) : Type 0 where
   pub fits : length d ≤ rules .limit
   pub long : LongThere (λ v. true) d l
 
-pub header-there : (rules : Rules) (d : List ℕ) {l : Long (Unit {0})} → given l ≡ retryHeader rules d → HeaderThere rules d l
+pub header-there : (rules : Rules) (d : List ℕ) {l : Long ℕ} → given l ≡ retryHeader rules d → HeaderThere rules d l
 unfolding retryHeader
 header-there rules d is =
     let one = followed (formed rules longForm d) _ (sym is) in
@@ -70,7 +70,7 @@ module _ (rules : Rules) (original d : List ℕ) where
     unfolding retryChecked
     check-no-long e = rw (le-leb (length original) longestId o, ← e)
 
-    module _ {l : Long (Unit {0})} (is-long : given l ≡ retryHeader rules d) where
+    module _ {l : Long ℕ} (is-long : given l ≡ retryHeader rules d) where
       pub check-no-token : {n : ℕ} → refused n ≡ tokenAt d (behind (l .source)) → retryChecked rules original d ≡ refused n
       unfolding retryChecked
       check-no-token e = rw (le-leb (length original) longestId o, ← is-long, ← e)

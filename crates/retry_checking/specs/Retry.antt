@@ -9,7 +9,7 @@ use Rattle.versions.specs.Versions.{version}
 use Rattle.header_fields.specs.Fields.{Place, behind, longestId, whole, tagLength}
 use Rattle.header_forms.specs.Rules.{Rules}
 use Rattle.header_forms.specs.Forms.{longForm, formed}
-use Rattle.header_long.specs.LongHeader.{Judge, ofType, Long, long}
+use Rattle.header_long.specs.LongHeader.{Judge, ofRetry, Long, long}
 use Rattle.octets.specs.Octets.{same}
 use Rattle.retry_tag.specs.Tag.{retryTag}
 
@@ -29,10 +29,11 @@ tokenAt d at = do
   given (record { at = at; len = len })
 
 -- who reads Retry packets, of every known version
-abbrev pub retries : Judge (Unit {0})
-retries = ofType (λ v. true) (λ v. v .retryType)
+abbrev pub retries : Judge ℕ
+retries = ofRetry (λ v. true)
 
-unfoldable pub retryHeader : Rules → List ℕ → Outcome (Long (Unit {0}))
+-- what a Retry begins with, as every long header does
+unfoldable pub retryHeader : Rules → List ℕ → Outcome (Long ℕ)
 retryHeader rules d = do
   formed rules longForm d
   long retries d

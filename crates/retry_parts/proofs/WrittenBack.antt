@@ -18,7 +18,7 @@ use Rattle.header_fields.specs.Answers.{handed}
 use Rattle.header_writing.specs.Written.{longFirst, longFields}
 use Rattle.versions.proofs.Versions.{retry-fits}
 use Rattle.header_fields.proofs.Fields.{handed-part}
-use Rattle.header_writing.proofs.HeaderBack.{first-form, type-taken, long-read, longPlaces, behind-ids, destination-back, source-back}
+use Rattle.header_writing.proofs.HeaderBack.{first-form, retry-taken, long-read, longPlaces, behind-ids, destination-back, source-back}
 use Rattle.octets.proofs.Places.{At, part-at}
 use Rattle.octets.specs.Octets.{same}
 use Rattle.octets.proofs.Same.{equal-same}
@@ -73,15 +73,15 @@ module _ (rules : Rules) (v : ℕ) (original destination source token : List ℕ
       let some = ap length is-long in
       formed-right rules longForm packet (omega arith) (made .fits) (omega (arith, form, retry-fits v))
 
-  long-back : retryHeader rules packet ≡ given (longPlaces v tt destination source)
+  long-back : retryHeader rules packet ≡ given (longPlaces v (version v .retryType) destination source)
   unfolding retryHeader
   long-back =
       given-first (long retries packet) (sym is-formed)
-      ∙ long-read retries v first tt destination source packet (token ++ after) (record {
+      ∙ long-read retries v first (version v .retryType) destination source packet (token ++ after) (record {
         is = is-long;
         ours = made .ours;
         taken = refl;
-        judges = type-taken (λ v. true) (λ v. v .retryType) v first form (retry-fits v);
+        judges = retry-taken v first form;
         short-destination = made .short-destination;
         short-source = made .short-source;
       })

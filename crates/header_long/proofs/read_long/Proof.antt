@@ -14,7 +14,7 @@ returns c = sym (long-no-version _ _ (sym (ap judgedAnswer (c .before .why .give
 
 returns-2 : tie.Need-returns-2
 returns-2 c =
-    let right = sym (ap judgedAnswer (c .before .before .before .before .before .version .given .1)) ∙ c .before .before .before .before .before .before .before .judge-version .ensures in
+    let right = sym (ap judgedAnswer (c .before .before .before .before .before .judged .given .1)) ∙ c .before .before .before .before .before .before .before .judge-version .ensures in
     sym (long-no-destination _ _ right (sym (ap foundAnswer (c .before .why2 .given .1)) ∙ c .before .before .before .id-at .ensures))
 
 add-id-at : tie.Need-add-id-at
@@ -24,13 +24,13 @@ add-id-at c =
 
 returns-3 : tie.Need-returns-3
 returns-3 c =
-    let right = sym (ap judgedAnswer (c .before .before .before .before .before .before .before .before .before .before .version .given .1)) ∙ c .before .before .before .before .before .before .before .before .before .before .before .before .judge-version .ensures in
+    let right = sym (ap judgedAnswer (c .before .before .before .before .before .before .before .before .before .before .judged .given .1)) ∙ c .before .before .before .before .before .before .before .before .before .before .before .before .judge-version .ensures in
     let destination = sym (ap foundAnswer (c .before .before .before .before .before .before .place .given .1)) ∙ c .before .before .before .before .before .before .before .before .id-at .ensures in
     sym (long-no-source _ _ right destination (sym (ap foundAnswer (c .before .why3 .given .1)) ∙ c .before .before .before .id-at2 .ensures))
 
 returns-4 : tie.Need-returns-4
 returns-4 c =
-    let right = sym (ap judgedAnswer (c .before .before .before .before .before .before .before .before .before .before .version .given .1)) ∙ c .before .before .before .before .before .before .before .before .before .before .before .before .judge-version .ensures in
+    let right = sym (ap judgedAnswer (c .before .before .before .before .before .before .before .before .before .before .judged .given .1)) ∙ c .before .before .before .before .before .before .before .before .before .before .before .before .judge-version .ensures in
     let destination = sym (ap foundAnswer (c .before .before .before .before .before .before .place .given .1)) ∙ c .before .before .before .before .before .before .before .before .id-at .ensures in
     sym (long-found _ _ right destination (sym (ap foundAnswer (c .before .place2 .given .1)) ∙ c .before .before .before .id-at2 .ensures))
 

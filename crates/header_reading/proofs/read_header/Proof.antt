@@ -3,9 +3,9 @@ use mathlib.Core.Path.{sym, ap, _∙_}
 use borrow.Author.Needs.{needs}
 use Rattle.header_forms.specs.Answers.{formedAnswer}
 use Rattle.octets.proofs.Outcome.{refused-first, given-first}
-use Rattle.header_initial.specs.InitialHeader.{anyHeader}
-use Rattle.header_initial.proofs.read_header.Statement.{statement}
-use Rattle.header_initial.proofs.read_header.Tie as tie
+use Rattle.header_reading.specs.PacketHeader.{anyHeader}
+use Rattle.header_reading.proofs.read_header.Statement.{statement}
+use Rattle.header_reading.proofs.read_header.Tie as tie
 
 returns : tie.Need-returns
 unfolding anyHeader
@@ -15,7 +15,7 @@ returns-2 : tie.Need-returns-2
 unfolding anyHeader
 returns-2 c =
     let formed = sym (ap formedAnswer (c .before .enum-told .given .1)) ∙ c .before .before .before .judge-form .ensures in
-    record { answer = c .read-initial .ensures ∙ sym (given-first _ formed) }
+    record { answer = c .read-fields .ensures ∙ sym (given-first _ formed) }
 
 pub read-header-spec : {M : Type 1} → statement M
 read-header-spec =
