@@ -1,10 +1,11 @@
 /*
  * Driftwicket: QUIC packet protection for C and C++.
  *
- * The library makes the keys of Initial packets, seals and opens Initial packets, shortens and recovers packet numbers,
- * and writes and checks Retry packets, for QUIC version 1 (RFC 9000 and RFC 9001) and for the version 2 draft
- * 0x709a50c4. It leaves out the TLS handshake, the frames inside a payload, timers, and the rule that a client's
- * datagram has 1,200 bytes or more. It does not hide its timing.
+ * The library makes the keys of Initial packets and, from the secrets that TLS hands over, those of 0-RTT and Handshake
+ * packets, seals and opens the packets of these three levels, shortens and recovers packet numbers, and writes and
+ * checks Retry packets, for QUIC version 1 (RFC 9000 and RFC 9001) and for the version 2 draft 0x709a50c4. It leaves
+ * out the TLS handshake, the frames inside a payload, timers, and the rule that a client's datagram has 1,200 bytes or
+ * more. It does not hide its timing.
  *
  * Each function is proved: for all input its answer, its report and every byte that it was lent are what its contract
  * says (specs/Promises.antt in the crates whose names begin with c_), it ends, and it touches nothing else.
@@ -54,15 +55,21 @@ extern "C" {
 
 /* The version of this library. */
 #define DW_LIBRARY_VERSION_MAJOR 0
-#define DW_LIBRARY_VERSION_MINOR 3
-#define DW_LIBRARY_VERSION_PATCH 1
+#define DW_LIBRARY_VERSION_MINOR 4
+#define DW_LIBRARY_VERSION_PATCH 0
 
 /* The versions of QUIC. */
 #define DW_VERSION_1 0x00000001u /* RFC 9000 */
 #define DW_DRAFT_2 0x709a50c4u   /* the version 2 draft */
 
+/* The levels of protection (RFC 9001 section 4). A packet with a long header says its level by its type. */
+#define DW_LEVEL_INITIAL 0u
+#define DW_LEVEL_ZERO_RTT 1u
+#define DW_LEVEL_HANDSHAKE 2u
+
 /* Sizes, in bytes. */
-#define DW_KEYS_SIZE 48     /* a sender's keys: version (4, most significant byte first), key (16), iv (12), hp (16) */
+#define DW_KEYS_SIZE 49     /* keys: version (4, most significant byte first), level (1), key (16), iv (12), hp (16) */
+#define DW_SECRET_SIZE 32   /* a secret of TLS, for the suites whose hash is SHA-256 */
 #define DW_TAG_SIZE 16      /* the tag at the end of a packet */
 #define DW_LIMIT 1500       /* the largest datagram that is read, and the largest packet that is written */
 #define DW_LONGEST_ID 20    /* the longest connection ID */
@@ -76,7 +83,7 @@ enum dw_refusal {
     DW_REFUSED_NOT_WHOLE = 3, /* a field isn't whole */
     DW_REFUSED_VERSION = 4,   /* the version is unknown, or isn't that of the keys */
     DW_REFUSED_LONG_ID = 5,   /* a connection ID is over 20 bytes */
-    DW_REFUSED_TYPE = 6,      /* the packet is of another type */
+    DW_REFUSED_TYPE = 6,      /* the packet's type isn't of the keys' level, or the level isn't one for this function */
     DW_REFUSED_SHORT = 7,     /* Length is below 20; in sealing, number and payload have fewer than 4 bytes together */
     DW_REFUSED_ROOM = 8,      /* the output is smaller than what would be written */
     DW_REFUSED_RESERVED = 9,  /* the reserved bits aren't zero once the header's mask is off: see DROP above */
@@ -97,7 +104,7 @@ static inline const char *dw_refusal_words(uint32_t answer)
     case DW_REFUSED_NOT_WHOLE: return "a field isn't whole";
     case DW_REFUSED_VERSION: return "the version is unknown, or not that of the keys";
     case DW_REFUSED_LONG_ID: return "a connection ID is over 20 bytes";
-    case DW_REFUSED_TYPE: return "the packet is of another type";
+    case DW_REFUSED_TYPE: return "the packet's type isn't of the keys' level, or the level isn't one for this";
     case DW_REFUSED_SHORT: return "Length is below 20, or there is too little to seal";
     case DW_REFUSED_ROOM: return "the output is too small";
     case DW_REFUSED_RESERVED: return "the reserved bits aren't zero after unmasking";
@@ -172,15 +179,30 @@ uint32_t dw_recover(uint64_t expected, uint64_t truncated, size_t length, uint64
  * set. `server` is 0 for the client's keys and anything else for the server's. Both sides of a connection need both: a
  * client seals with the client's keys and opens with the server's.
  *
- * There is no report. `keys` holds, with the answer 0, the version (4 bytes, most significant first), key (16), iv (12)
- * and hp (16).
+ * There is no report. `keys` holds, with the answer 0, the version (4 bytes, most significant first), the level (1,
+ * which is DW_LEVEL_INITIAL), key (16), iv (12) and hp (16).
  * Refusals, in this order: DW_REFUSED_VERSION, DW_REFUSED_LONG_ID.
  */
 uint32_t dw_initial_keys(uint32_t version, const uint8_t *destination, size_t destination_len, uint32_t server,
                          uint8_t keys[DW_KEYS_SIZE]);
 
 /*
- * RFC 9001 section 5: seals an Initial packet, of the keys' version, at the start of `out`.
+ * RFC 9001 section 5.1: the keys with which one side protects its packets of a level, from the secret that TLS hands
+ * over for that side and level. The secret is of a suite with AES-128-GCM and SHA-256.
+ *
+ * `level` is DW_LEVEL_ZERO_RTT or DW_LEVEL_HANDSHAKE. `server` is 0 for keys with which the client sends and anything
+ * else for those with which the server does.
+ *
+ * There is no report. `keys` holds, with the answer 0, what it holds after dw_initial_keys, with this level.
+ * Refusals, in this order: DW_REFUSED_VERSION; DW_REFUSED_TYPE for the Initial level, whose keys dw_initial_keys makes,
+ * for a number that names no level, and for 0-RTT where the server would send.
+ */
+uint32_t dw_install_keys(uint32_t version, uint32_t level, uint32_t server, const uint8_t secret[DW_SECRET_SIZE],
+                         uint8_t keys[DW_KEYS_SIZE]);
+
+/*
+ * RFC 9001 section 5: seals an Initial packet, of the keys' version, at the start of `out`. The keys are of the Initial
+ * level.
  *
  * `number`, `any_acknowledged`, `acknowledged` and `length` are those of dw_shorten: the number goes into the packet in
  * `length` bytes. Then come the connection IDs, the token and the payload. Each may be empty, but `length` and the
@@ -188,8 +210,8 @@ uint32_t dw_initial_keys(uint32_t version, const uint8_t *destination, size_t de
  * doesn't remember numbers.
  *
  * The bytes of `out` behind the packet stay as they were.
- * Refusals, in this order: DW_REFUSED_VERSION (the keys'), DW_REFUSED_RANGE, DW_REFUSED_GAP, DW_REFUSED_LENGTH,
- * DW_REFUSED_LONG_ID, DW_REFUSED_SHORT, DW_REFUSED_SIZE, DW_REFUSED_ROOM.
+ * Refusals, in this order: DW_REFUSED_VERSION (the keys'), DW_REFUSED_TYPE (the keys' level), DW_REFUSED_RANGE,
+ * DW_REFUSED_GAP, DW_REFUSED_LENGTH, DW_REFUSED_LONG_ID, DW_REFUSED_SHORT, DW_REFUSED_SIZE, DW_REFUSED_ROOM.
  */
 enum dw_sealed_report {
     DW_SEALED_LEN, /* the packet's length */
@@ -201,18 +223,29 @@ uint32_t dw_seal(const uint8_t keys[DW_KEYS_SIZE], uint64_t number, uint32_t any
                  uint8_t *out, size_t out_len, uint64_t report[DW_SEALED_REPORT]);
 
 /*
- * RFC 9001 section 5: opens the Initial packet that begins a datagram.
+ * RFC 9001 section 5: seals a packet without a token, 0-RTT or Handshake, by the level of the keys. All else is as
+ * dw_seal has it, the refusals and their order too.
+ */
+uint32_t dw_seal_long(const uint8_t keys[DW_KEYS_SIZE], uint64_t number, uint32_t any_acknowledged,
+                      uint64_t acknowledged, size_t length, const uint8_t *destination, size_t destination_len,
+                      const uint8_t *source, size_t source_len, const uint8_t *payload, size_t payload_len,
+                      uint8_t *out, size_t out_len, uint64_t report[DW_SEALED_REPORT]);
+
+/*
+ * RFC 9001 section 5: opens the packet that begins a datagram, of the level of the keys.
  *
  * `keys` are the sender's. `*expected` is one above the greatest number opened so far, or 0 before any; with the answer
  * 0 it becomes the larger of itself and one above the number opened. A repeated packet opens again. `out` needs as many
  * bytes as the packet has, less 16; with the answer 0 its start holds the header without its mask, number included, and
  * behind it the payload. The bytes behind those stay as they were. Nothing is written before the tag has been compared.
+ * Initial and Handshake packets are numbered apart (RFC 9000 section 12.3): each level needs an expected number of its
+ * own.
  *
  * Bytes behind the packet aren't looked at: another packet may stand there.
  * Refusals, in this order: DW_REFUSED_RANGE (expected), DW_REFUSED_VERSION (the keys'), then the header's (see
- * dw_read_header; a known version that isn't the keys' is DW_REFUSED_VERSION too), DW_REFUSED_ROOM,
- * DW_REFUSED_RESERVED, DW_REFUSED_RANGE (recovered), DW_REFUSED_TAG. What the last three ask of a caller is said under
- * DROP, at the top.
+ * dw_read_header; a known version that isn't the keys' is DW_REFUSED_VERSION too, and a type that isn't of the keys'
+ * level is DW_REFUSED_TYPE), DW_REFUSED_ROOM, DW_REFUSED_RESERVED, DW_REFUSED_RANGE (recovered), DW_REFUSED_TAG. What
+ * the last three ask of a caller is said under DROP, at the top.
  */
 enum dw_opened_report {
     DW_OPENED_NUMBER,      /* the full number */
@@ -226,15 +259,16 @@ uint32_t dw_open(const uint8_t keys[DW_KEYS_SIZE], uint64_t *expected, const uin
                  uint8_t *out, size_t out_len, uint64_t report[DW_OPENED_REPORT]);
 
 /*
- * RFC 9000 section 17.2.2: where the fields of an Initial packet stand in a datagram. It needs no keys: this is how a
- * server learns the destination ID that the keys are made from. Nothing of it is authentic until the packet has been
- * opened.
+ * RFC 9000 sections 17.2.2 to 17.2.4: where the fields of an Initial, 0-RTT or Handshake packet stand in a datagram,
+ * and its level. It needs no keys: this is how a server learns the destination ID that Initial keys are made from, and
+ * how a receiver learns which keys a packet needs. Nothing of it is authentic until the packet has been opened.
  *
- * A place counts bytes from the datagram's start, and an empty part's is where it would start.
+ * A place counts bytes from the datagram's start, and an empty part's is where it would start. 0-RTT and Handshake
+ * packets have no token: its place and length are 0 then.
  * Refusals: DW_REFUSED_SIZE, DW_REFUSED_FORM, and then field by field in the packet's order. Each field is first whole
- * (DW_REFUSED_NOT_WHOLE) and then right: the version DW_REFUSED_VERSION, and after it the type DW_REFUSED_TYPE; an ID's
- * length DW_REFUSED_LONG_ID, even where its bytes aren't there; Length DW_REFUSED_SHORT before its end is looked for
- * (DW_REFUSED_NOT_WHOLE).
+ * (DW_REFUSED_NOT_WHOLE) and then right: the version DW_REFUSED_VERSION, and after it the type DW_REFUSED_TYPE, which
+ * here is for Retry alone; an ID's length DW_REFUSED_LONG_ID, even where its bytes aren't there; Length
+ * DW_REFUSED_SHORT before its end is looked for (DW_REFUSED_NOT_WHOLE).
  */
 enum dw_header_report {
     DW_HEADER_VERSION,
@@ -246,6 +280,7 @@ enum dw_header_report {
     DW_HEADER_TOKEN_LEN,
     DW_HEADER_LENGTH,    /* the value of Length: number, payload and tag */
     DW_HEADER_NUMBER_AT, /* where the number starts, masked still */
+    DW_HEADER_LEVEL,     /* DW_LEVEL_INITIAL, DW_LEVEL_ZERO_RTT or DW_LEVEL_HANDSHAKE */
     DW_HEADER_REPORT
 };
 uint32_t dw_read_header(const uint8_t *datagram, size_t datagram_len, uint64_t report[DW_HEADER_REPORT]);

@@ -21,15 +21,19 @@ zero-given (given a) numbered answers = (a, refl, answers .reported)
 pub some : {A : Type 0} {a : A} → Numbered (given a)
 some = record { number = λ n e. absurd (apart e) }
 
+-- a refusal alone
+pub numbered : {A : Type 0} (n : ℕ) → 0 < n → Numbered {A = A} (refused n)
+numbered n positive = record { number = λ m e. let same : m ≡ n = cc in rw same positive }
+
 -- behind a test whose refusal has a number
 pub tested : {A : Type 0} (n : ℕ) (b : Bool) {o : Outcome A} → 0 < n → Numbered o → Numbered (unless n b >> o)
-tested n true some rest = rest
-tested n false some rest = record { number = λ m e. let same : m ≡ n = cc in rw same some }
+tested n true positive rest = rest
+tested n false positive rest = numbered n positive
 
 -- a test alone
 pub test : (n : ℕ) (b : Bool) → 0 < n → Numbered (unless n b)
 test n true positive = some
-test n false positive = record { number = λ m e. let same : m ≡ n = cc in rw same positive }
+test n false positive = numbered n positive
 
 -- behind a judgement
 pub judged : {A B : Type 0} (o : Outcome A) {rest : Outcome B} → Numbered o → Numbered rest → Numbered (o >> rest)

@@ -2,10 +2,10 @@
 use Prim.Native.Nat.{ℕ}
 use mathlib.Core.List.{List, [], _∷_}
 use Rattle.header_forms.specs.Rules.{inForce}
-use Rattle.header_initial.specs.InitialHeader.{Header, anyHeader}
+use Rattle.header_reading.specs.PacketHeader.{Header, anyHeader}
 use Rattle.c_forms.specs.Promises.{Answers}
 
--- version; place and length of destination, source and token; Length; place of the number
+-- version; place and length of destination, source and token; Length; place of the number; level
 abbrev pub headerNumbers : Header → List ℕ
 headerNumbers h =
     h .version
@@ -14,6 +14,7 @@ headerNumbers h =
     ∷ h .token .at ∷ h .token .len
     ∷ h .length′
     ∷ h .numberAt
+    ∷ h .level
     ∷ []
 
 abbrev pub DwReadHeader : (datagram before : List ℕ) (r : ℕ) (report : List ℕ) → Type 0

@@ -1,16 +1,17 @@
 // The product: every entry point, and every type that one takes or answers with.
 pub use header_fields::Place;
-pub use header_initial::Header;
-pub use header_initial::Reading;
-pub use header_initial::read_header;
 pub use header_parts::header_destination;
 pub use header_parts::header_source;
 pub use header_parts::header_token;
+pub use header_reading::Header;
+pub use header_reading::Reading;
+pub use header_reading::read_header;
 pub use integers::Integer;
 pub use integers::read_integer;
-pub use keys::InitialKeys;
+pub use keys::MadeKeys;
 pub use keys::Side;
 pub use keys::initial_keys;
+pub use keys::install_keys;
 pub use numbers::FullPn;
 pub use numbers::TruncatedPn;
 pub use numbers_recovery::Recovered;
@@ -34,4 +35,6 @@ pub use retry_parts::retry_token;
 pub use retry_writing::Writing;
 pub use retry_writing::write_retry;
 pub use seal::seal;
+pub use seal::seal_long;
 pub use seal_judging::Sealing;
+pub use versions::level;

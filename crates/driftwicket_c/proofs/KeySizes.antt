@@ -1,4 +1,4 @@
--- The keys that are made have their sizes, so that 48 bytes give them back.
+-- The keys that are made have their sizes, so that 49 bytes give them back.
 use Prim.Native.Nat.{ℕ, _+_, _*_, _/_, _^_, _≤_, _<_}
 use mathlib.Core.Path.{_≡_, refl, ap, subst, _∙_}
 use mathlib.Core.List.{List, [], _∷_, _++_, foldl}
@@ -14,11 +14,14 @@ use Rattle.sha256.specs.Sha256.{blocks, compressed, absorbed, hash}
 use Rattle.sha256.proofs.Digest.{digest-length}
 use Rattle.hmac.specs.Hmac.{hmac}
 use Rattle.hkdf.specs.Hkdf.{T, Ts, expand, info, expandLabel}
+use Rattle.versions.specs.Levels.{initial}
 use Rattle.versions.specs.Versions.{known, version}
 use Rattle.header_fields.specs.Fields.{longestId}
 use Rattle.protection.specs.Protection.{Keys}
-use Rattle.keys.specs.InitialKeys.{Side, sideSecret, initialKeys}
 use Rattle.keys_expansion.specs.Expansion.{keysFrom}
+use Rattle.keys.specs.Sides.{Side}
+use Rattle.keys.specs.InitialKeys.{sideSecret, initialKeys}
+use Rattle.keys.specs.InstalledKeys.{installs, installed}
 use Rattle.c_key_record.specs.Layout.{keyBytes, keysIn}
 use Rattle.c_key_record.proofs.KeyRecords.{Sized, keys-back}
 
@@ -52,19 +55,31 @@ label-length secret label L some few =
     ap (λ (n : ℕ). length (take L (Ts secret text n))) one ∙ length-take-le L (Ts secret text 1) (omega (arith, block-length secret text))
 
 -- ---- RFC 9001 section 5.1
-sizes : (v : ℕ) (secret : List ℕ) → Sized (keysFrom v secret)
+sizes : (v level : ℕ) (secret : List ℕ) → Sized (keysFrom v level secret)
 unfolding keysFrom
-sizes v secret = record {
+sizes v level secret = record {
   of-key = label-length secret (version v .keyLabel) 16 (lit< tt) (lit< tt);
   of-iv = label-length secret (version v .ivLabel) 12 (lit< tt) (lit< tt);
   of-hp = label-length secret (version v .hpLabel) 16 (lit< tt) (lit< tt);
 }
 
--- what is written of the keys made is read as those keys
+-- what is written of a secret's keys is read as those keys
+secret-back : (v level : ℕ) (secret : List ℕ) {k : Keys} → v < 2 ^ 32 → keysFrom v level secret ≡ k → keysIn (keyBytes k) ≡ k
+unfolding keysFrom
+secret-back v level secret fits is =
+    subst (λ (x : Keys). keysIn (keyBytes x) ≡ x) is (keys-back (keysFrom v level secret) (sizes v level secret) fits)
+
+-- so what is written of the keys made, or installed, is read as those
 pub made-back : (v : ℕ) (destination : List ℕ) (side : Side) {k : Keys} → v < 2 ^ 32 → initialKeys v destination side ≡ given k → keysIn (keyBytes k) ≡ k
-unfolding initialKeys keysFrom
-made-back v destination side {k} fits is =
+unfolding initialKeys
+made-back v destination side fits is =
     let ours = passed 4 (known v) _ is in
     let short = passed 5 (leb (length destination) longestId) _ (ours .1) in
-    let secret = sideSecret v destination side in
-    subst (λ (x : Keys). keysIn (keyBytes x) ≡ x) (given-same (short .1)) (keys-back (keysFrom v secret) fits (sizes v secret))
+    secret-back v initial (sideSecret v destination side) fits (given-same (short .1))
+
+pub installed-back : (v level : ℕ) (sender : Side) (secret : List ℕ) {k : Keys} → v < 2 ^ 32 → installed v level sender secret ≡ given k → keysIn (keyBytes k) ≡ k
+unfolding installed
+installed-back v level sender secret fits is =
+    let ours = passed 4 (known v) _ is in
+    let sent = passed 6 (installs level sender) _ (ours .1) in
+    secret-back v level secret fits (given-same (sent .1))

@@ -1,30 +1,33 @@
 -- No refusal is numbered 0 (of keys: c_keys, KeysAnswered.antt), so that an answer of 0 says that something is given.
 use Prim.Native.Nat.{ℕ, _+_, _-_, _/_, _%_, _^_}
-use mathlib.Core.Bool.{Bool, true, _&&_}
+use mathlib.Core.Bool.{Bool, true, false, _&&_, cond}
 use mathlib.Core.List.{List, _∷_, _++_}
 use lib.Dec.{leb, ltb, eqb, lit<}
 use lib.ListN.{length, getD, take, drop}
+use Rattle.octets.specs.Outcome.{refused, given, _>>=_}
 use Rattle.octets.specs.Octets.{number, part, same}
 use Rattle.integers.specs.Integer.{integer}
 use Rattle.numbers.specs.Numbers.{numbers, window, half}
 use Rattle.numbers_shortening.specs.Shortening.{Acknowledged, nothing, upTo, coverable, ahead, gap, smallestLength, shortened}
 use Rattle.numbers_recovery.specs.Recovery.{decoded, recovered}
-use Rattle.versions.specs.Versions.{Version, known, version}
+use Rattle.versions.specs.Levels.{initial, zeroRtt, handshake, hasToken}
+use Rattle.versions.specs.Versions.{Version, known, version, levelOf}
 use Rattle.header_fields.specs.Fields.{longestId, leastLength, tagLength, behind, idAt, integerAt, fieldAt, restAt}
 use Rattle.header_forms.specs.Rules.{Rules}
 use Rattle.header_forms.specs.Forms.{Form, longForm, reservedBits, formed}
 use Rattle.header_long.specs.LongHeader as LongHeader
-use Rattle.header_long.specs.LongHeader.{Judge, ofType, versionOf, long}
-use Rattle.header_initial.specs.InitialHeader.{header, initials, anyHeader}
-use Rattle.header_writing.specs.Written.{Plain}
+use Rattle.header_long.specs.LongHeader.{Judge, ofAnyLevel, onlyLevel, onlyRetry, versionOf, long}
+use Rattle.header_reading.specs.PacketHeader as PacketHeader
+use Rattle.header_reading.specs.PacketHeader.{header, anyHeader}
+use Rattle.header_writing.specs.Written.{writes, Plain}
 use Rattle.protection.specs.Suite.{Suite}
 use Rattle.protection.specs.Protection.{Keys, nonce, onFirst, onNumber}
 use Rattle.protection.specs.Clear.{maskOf, Revealed, revealed, decrypted, unprotected}
-use Rattle.packets.specs.Packet.{packetOf, sealed, opened}
+use Rattle.packets.specs.Packet.{packetOf, sealed, ofKeys, opened}
 use Rattle.retry_tag.specs.Tag.{retryTag, tagged}
 use Rattle.retry_writing.specs.Written.{untagged, retryWritten}
 use Rattle.retry_checking.specs.Retry.{tokenAt, retries, retryHeader, retryChecked}
-use Rattle.c_forms.proofs.Numbered.{Numbered, some, test, tested, judged, stepped}
+use Rattle.c_forms.proofs.Numbered.{Numbered, some, numbered, test, tested, judged, stepped}
 
 -- ---- integers and packet numbers
 pub integer-numbered : (s : List ℕ) → Numbered (integer s)
@@ -71,8 +74,23 @@ formed-numbered rules form d =
 abbrev Judging : {A : Type 0} → Judge A → Type 0
 Judging judge = (row : Version) (type : ℕ) → Numbered (judge .kind row type)
 
-of-type-judging : (takes : ℕ → Bool) (wanted : Version → ℕ) → Judging (ofType takes wanted)
-of-type-judging takes wanted row type = test 6 (eqb type (wanted row)) (lit< tt)
+level-numbered : (row : Version) (type : ℕ) → Numbered (levelOf row type)
+unfolding levelOf
+level-numbered row type = by (eqb type (row .initialType)) (eqb type (row .zeroRttType)) (eqb type (row .handshakeType))
+  where
+    by : (a b c : Bool) → Numbered (cond a (given initial) (cond b (given zeroRtt) (cond c (given handshake) (refused 6))))
+    by true b c = some
+    by false true c = some
+    by false false true = some
+    by false false false = numbered 6 (lit< tt)
+
+only-level-numbered : (level : ℕ) (row : Version) (type : ℕ) → Numbered (onlyLevel level row type)
+unfolding onlyLevel
+only-level-numbered level row type = stepped (levelOf row type) (level-numbered row type) (λ l. tested 6 (eqb l level) (lit< tt) some)
+
+only-retry-numbered : (row : Version) (type : ℕ) → Numbered (onlyRetry row type)
+unfolding onlyRetry
+only-retry-numbered row type = tested 6 (eqb type (row .retryType)) (lit< tt) some
 
 module _ (d : List ℕ) where
   version-numbered : Numbered (versionOf d)
@@ -113,17 +131,26 @@ module _ (d : List ℕ) where
       stepped (integerAt d at) (integer-at-numbered at)
       (λ rest. tested 7 (leb leastLength (rest .len)) (lit< tt) (tested 3 (leb (rest .at + rest .len) (length d)) (lit< tt) some))
 
-  header-numbered : {A : Type 0} (judge : Judge A) → Judging judge → Numbered (header judge d)
+  token-at-numbered : (level at : ℕ) → Numbered (PacketHeader.tokenAt level d at)
+  unfolding PacketHeader.tokenAt
+  token-at-numbered level at = by (hasToken level)
+    where
+      by : (has : Bool) → Numbered {A = PacketHeader.Token} (cond has (fieldAt d at >>= λ f. given (record { place = f; end = behind f })) (given (record { place = record { at = 0; len = 0 }; end = at })))
+      by true = stepped (fieldAt d at) (field-numbered at) (λ f. some)
+      by false = some
+
+  header-numbered : (judge : Judge ℕ) → Judging judge → Numbered (header judge d)
   unfolding header
   header-numbered judge judging =
       stepped (long judge d) (long-numbered judge judging)
-      (λ l. stepped (fieldAt d (behind (l .source))) (field-numbered (behind (l .source))) (λ token. stepped (restAt d (behind token)) (rest-numbered (behind token)) (λ rest. some)))
+      (λ l. stepped (PacketHeader.tokenAt (l .kind) d (behind (l .source))) (token-at-numbered (l .kind) (behind (l .source)))
+      (λ token. stepped (restAt d (token .end)) (rest-numbered (token .end)) (λ rest. some)))
 
 pub any-header-numbered : (rules : Rules) (d : List ℕ) → Numbered (anyHeader rules d)
 unfolding anyHeader
 any-header-numbered rules d =
     judged (formed rules longForm d) (formed-numbered rules longForm d)
-    (header-numbered d (initials (λ v. true)) (of-type-judging (λ v. true) (λ v. v .initialType)))
+    (header-numbered d (ofAnyLevel (λ v. true)) level-numbered)
 
 -- ---- sealing and opening
 module _ (suite : Suite) (rules : Rules) (k : Keys) where
@@ -131,11 +158,12 @@ module _ (suite : Suite) (rules : Rules) (k : Keys) where
   unfolding sealed
   sealed-numbered a p room =
       tested 4 (known (k .version)) (lit< tt)
+      (tested 6 (writes (p .token) (k .level)) (lit< tt)
       (stepped (shortened (p .packetNumber) a (p .numberLength)) (shortened-numbered (p .packetNumber) a (p .numberLength))
       (λ short. tested 5 (leb (length (p .destination)) longestId && leb (length (p .source)) longestId) (lit< tt)
       (tested 7 (leb 4 (p .numberLength + length (p .payload))) (lit< tt)
       (tested 1 (leb (length (packetOf suite rules k p)) (rules .limit)) (lit< tt)
-      (tested 8 (leb (length (packetOf suite rules k p)) room) (lit< tt) some)))))
+      (tested 8 (leb (length (packetOf suite rules k p)) room) (lit< tt) some))))))
 
   revealed-numbered : (form : Form) (e : ℕ) (packet : List ℕ) (at : ℕ) → Numbered (revealed suite form (k .hp) e packet at)
   unfolding revealed
@@ -161,11 +189,10 @@ module _ (suite : Suite) (rules : Rules) (k : Keys) where
   pub opened-numbered : (e : ℕ) (d : List ℕ) (room : ℕ) → Numbered (opened suite rules k e d room)
   unfolding opened
   opened-numbered e d room =
-      let ours : Judge (Unit {0}) = initials (λ v. eqb v (k .version)) in
       tested 10 (leb e numbers) (lit< tt)
       (tested 4 (known (k .version)) (lit< tt)
       (judged (formed rules longForm d) (formed-numbered rules longForm d)
-      (stepped (header ours d) (header-numbered d ours (of-type-judging (λ v. eqb v (k .version)) (λ v. v .initialType)))
+      (stepped (header (ofKeys k) d) (header-numbered d (ofKeys k) (only-level-numbered (k .level)))
       (λ h. tested 8 (leb (length (take (h .numberAt + h .length′) d) - tagLength) room) (lit< tt)
       (unprotected-numbered longForm e (take (h .numberAt + h .length′) d) (h .numberAt))))))
 
@@ -188,7 +215,7 @@ token-numbered d at = tested 3 (leb (at + tagLength) (length d)) (lit< tt) (test
 retry-header-numbered : (rules : Rules) (d : List ℕ) → Numbered (retryHeader rules d)
 unfolding retryHeader
 retry-header-numbered rules d =
-    judged (formed rules longForm d) (formed-numbered rules longForm d) (long-numbered d retries (of-type-judging (λ v. true) (λ v. v .retryType)))
+    judged (formed rules longForm d) (formed-numbered rules longForm d) (long-numbered d retries only-retry-numbered)
 
 pub retry-checked-numbered : (rules : Rules) (original d : List ℕ) → Numbered (retryChecked rules original d)
 unfolding retryChecked

@@ -6,7 +6,7 @@ use Rattle.octets.specs.Outcome.{Outcome}
 use Rattle.header_writing.specs.Written.{Plain}
 use Rattle.c_forms.specs.Promises.{Answers, Writes}
 use Rattle.c_numbers.specs.Promises.{DwReadInteger, DwSmallestLength, DwShorten, DwRecover}
-use Rattle.c_keys.specs.Promises.{DwInitialKeys}
+use Rattle.c_keys.specs.Promises.{DwInitialKeys, DwInstallKeys}
 use Rattle.c_seal.specs.Promises.{DwSeal}
 use Rattle.c_open.specs.Promises.{DwOpen}
 use Rattle.c_header.specs.Promises.{DwReadHeader}
@@ -40,6 +40,10 @@ module _ {before : List ℕ} {r r′ : ℕ} {report report′ : List ℕ} where
   pub dw-initial-keys-once : (v : ℕ) (destination : List ℕ) (server : ℕ)
       → DwInitialKeys v destination server before r report → DwInitialKeys v destination server before r′ report′ → (r ≡ r′) × (report ≡ report′)
   dw-initial-keys-once v destination server = answers-once
+
+  pub dw-install-keys-once : (v level server : ℕ) (secret : List ℕ)
+      → DwInstallKeys v level server secret before r report → DwInstallKeys v level server secret before r′ report′ → (r ≡ r′) × (report ≡ report′)
+  dw-install-keys-once v level server secret = answers-once
 
   pub dw-read-header-once : (datagram : List ℕ) → DwReadHeader datagram before r report → DwReadHeader datagram before r′ report′ → (r ≡ r′) × (report ≡ report′)
   dw-read-header-once datagram = answers-once

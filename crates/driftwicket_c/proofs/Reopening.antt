@@ -54,7 +54,7 @@ reopening keys p size then behind s expected next r before report room after′ 
       reported =
           promised .answers .reported
           ∙ ap (λ (x : Outcome Opened). told openedNumbers x before) is
-          ∙ ap (λ (n : ℕ). p .packetNumber ∷ p .numberLength ∷ length (plainHeader (clearOf inForce (k .version) p)) ∷ length (p .payload) ∷ n ∷ []) (sym (m .2));
+          ∙ ap (λ (n : ℕ). p .packetNumber ∷ p .numberLength ∷ length (plainHeader (clearOf inForce (k .version) (k .level) p)) ∷ length (p .payload) ∷ n ∷ []) (sym (m .2));
       moved = promised .moved ∙ ap (after expected) is;
       written = promised .written ∙ ap (λ (x : Outcome Opened). placed (output x) room) is;
     }

@@ -32,11 +32,11 @@ pub record Comes (p : Plain) (size : ℕ) (datagram : List ℕ) (expected : ℕ)
 
 -- the answer is 0; number, lengths and bytes used are reported; plain header and payload stand at the output's start; the number
 -- expected next is the larger of what was expected and one above the packet's own
-pub record Reopened (v : ℕ) (p : Plain) (size expected next r : ℕ) (report room then : List ℕ) : Type 0 where
+pub record Reopened (v level : ℕ) (p : Plain) (size expected next r : ℕ) (report room then : List ℕ) : Type 0 where
   pub answer : r ≡ 0
-  pub reported : report ≡ p .packetNumber ∷ p .numberLength ∷ length (plainHeader (clearOf inForce v p)) ∷ length (p .payload) ∷ size ∷ []
+  pub reported : report ≡ p .packetNumber ∷ p .numberLength ∷ length (plainHeader (clearOf inForce v level p)) ∷ length (p .payload) ∷ size ∷ []
   pub moved : next ≡ max expected (p .packetNumber + 1)
-  pub written : then ≡ begun (plainHeader (clearOf inForce v p) ++ p .payload) room
+  pub written : then ≡ begun (plainHeader (clearOf inForce v level p) ++ p .payload) room
 
 -- whatever stands behind the packet
 abbrev pub Reopens : Type 0
@@ -44,4 +44,4 @@ Reopens =
     (keys : List ℕ) (p : Plain) (size : ℕ) (sealed behind : List ℕ) → Sealed keys p size sealed
     → (expected next r : ℕ) (before report room then : List ℕ) → Comes p size (take size sealed ++ behind) expected room
     → DwOpen keys (take size sealed ++ behind) expected next before r report room then
-    → Reopened (keysIn keys .version) p size expected next r report room then
+    → Reopened (keysIn keys .version) (keysIn keys .level) p size expected next r report room then

@@ -2,8 +2,9 @@
 // To C a slice is a pointer and a length, and a reference a pointer alone (include/driftwicket.h). An archive exports the functions
 // of its own crate alone: each is one call to the room of its family.
 use c_key_record::KeyRecord;
+ghost use Rattle.header_writing.specs.Written.{holding, absent};
 ghost use Rattle.c_numbers.specs.Promises.{DwReadInteger, DwSmallestLength, DwShorten, DwRecover};
-ghost use Rattle.c_keys.specs.Promises.{DwInitialKeys};
+ghost use Rattle.c_keys.specs.Promises.{DwInitialKeys, DwInstallKeys};
 ghost use Rattle.c_seal.specs.Promises.{DwSeal};
 ghost use Rattle.c_open.specs.Promises.{DwOpen};
 ghost use Rattle.c_header.specs.Promises.{DwReadHeader};
@@ -57,7 +58,7 @@ pub extern "C" fn dw_recover(
     c_numbers::recover(expected, truncated, length, report)
 }
 
-// RFC 9001 section 5.2: writes one side's keys.
+// RFC 9001 section 5.2: writes one side's Initial keys.
 #[no_mangle]
 pub extern "C" fn dw_initial_keys(
     version: u32,
@@ -70,7 +71,21 @@ pub extern "C" fn dw_initial_keys(
     c_keys::initial_keys(version, destination, server, keys)
 }
 
-// RFC 9001 section 5: seals a packet at the output's start, and reports its length.
+// RFC 9001 section 5.1: writes one side's keys of a level, from its secret there.
+#[no_mangle]
+pub extern "C" fn dw_install_keys(
+    version: u32,
+    level: u32,
+    server: u32,
+    secret: &[u8; 32],
+    keys: &mut KeyRecord,
+) -> u32
+    ensures { λ r. ⌜ DwInstallKeys version level server (now (secret .entry)) (now (keys .entry)) r (now (keys .exit)) ⌝ }
+{
+    c_keys::install_keys(version, level, server, secret, keys)
+}
+
+// RFC 9001 section 5: seals an Initial packet at the output's start, and reports its length.
 #[no_mangle]
 pub extern "C" fn dw_seal(
     keys: &KeyRecord,
@@ -85,7 +100,7 @@ pub extern "C" fn dw_seal(
     out: &mut [u8],
     report: &mut [u64; 1],
 ) -> u32
-    ensures { λ r. ⌜ DwSeal (now (keys .entry)) «any_acknowledged» acknowledged (record { destination = now (destination .entry); source = now (source .entry); token = now (token .entry); payload = now (payload .entry); packetNumber = number; numberLength = length }) (now (report .entry)) r (now (report .exit)) (now (out .entry)) (now (out .exit)) ⌝ }
+    ensures { λ r. ⌜ DwSeal (now (keys .entry)) «any_acknowledged» acknowledged (record { destination = now (destination .entry); source = now (source .entry); token = holding (now (token .entry)); payload = now (payload .entry); packetNumber = number; numberLength = length }) (now (report .entry)) r (now (report .exit)) (now (out .entry)) (now (out .exit)) ⌝ }
 {
     c_seal::seal(
         keys,
@@ -96,6 +111,36 @@ pub extern "C" fn dw_seal(
         destination,
         source,
         token,
+        payload,
+        out,
+        report,
+    )
+}
+
+// RFC 9001 section 5: seals a 0-RTT or Handshake packet, by the level of the keys, and reports its length.
+#[no_mangle]
+pub extern "C" fn dw_seal_long(
+    keys: &KeyRecord,
+    number: u64,
+    any_acknowledged: u32,
+    acknowledged: u64,
+    length: usize,
+    destination: &[u8],
+    source: &[u8],
+    payload: &[u8],
+    out: &mut [u8],
+    report: &mut [u64; 1],
+) -> u32
+    ensures { λ r. ⌜ DwSeal (now (keys .entry)) «any_acknowledged» acknowledged (record { destination = now (destination .entry); source = now (source .entry); token = absent; payload = now (payload .entry); packetNumber = number; numberLength = length }) (now (report .entry)) r (now (report .exit)) (now (out .entry)) (now (out .exit)) ⌝ }
+{
+    c_seal::seal_long(
+        keys,
+        number,
+        any_acknowledged,
+        acknowledged,
+        length,
+        destination,
+        source,
         payload,
         out,
         report,
@@ -117,9 +162,10 @@ pub extern "C" fn dw_open(
     c_open::open(keys, expected, datagram, out, report)
 }
 
-// RFC 9000 section 17.2.2: reports the version, place and length of both IDs and of the token, Length, and the number's place.
+// RFC 9000 sections 17.2.2 to 17.2.4: reports the version, place and length of both IDs and of the token, Length, the number's place,
+// and the level.
 #[no_mangle]
-pub extern "C" fn dw_read_header(datagram: &[u8], report: &mut [u64; 9]) -> u32
+pub extern "C" fn dw_read_header(datagram: &[u8], report: &mut [u64; 10]) -> u32
     ensures { λ r. ⌜ DwReadHeader (now (datagram .entry)) (now (report .entry)) r (now (report .exit)) ⌝ }
 {
     c_header::read_header(datagram, report)

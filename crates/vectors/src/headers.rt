@@ -2,12 +2,12 @@
 use crate::fields;
 use crate::print;
 use header_fields::Place;
-use header_initial::Header;
-use header_initial::Reading;
-use header_initial::read_header;
 use header_parts::header_destination;
 use header_parts::header_source;
 use header_parts::header_token;
+use header_reading::Header;
+use header_reading::Reading;
+use header_reading::read_header;
 
 // How long a part is, and where it stands.
 fn place(names: &[u8], index: usize, found: Place) {

@@ -1,4 +1,4 @@
--- Each part fills its array, and the first four bytes spell the version.
+-- Each part fills its array, the first four bytes spell the version, and the fifth is the level.
 use mathlib.Core.Path.{refl, _∙_}
 use native.Mathlib.Omega.{arith}
 use lib.ListN.{replicate}
@@ -13,9 +13,10 @@ returns c =
     let s = c .before .before .before .before .before .before .before .before .before .before .before .before .before .before .before .before .before .args .t1 in
     keys-read s
     (c .word .ensures)
-    (c .before .before .before .before .before .before .before .before .before .before .before .before .before .copy .ensures ∙ whole-part (replicate 16 0) s 4 16 16 refl (omega arith) refl)
-    (c .before .before .before .before .before .before .before .before .copy2 .ensures ∙ whole-part (replicate 12 0) s 20 12 12 refl (omega arith) refl)
-    (c .before .before .before .copy3 .ensures ∙ whole-part (replicate 16 0) s 32 16 16 refl (omega arith) refl)
+    refl
+    (c .before .before .before .before .before .before .before .before .before .before .before .before .before .copy .ensures ∙ whole-part (replicate 16 0) s 5 16 16 refl (omega arith) refl)
+    (c .before .before .before .before .before .before .before .before .copy2 .ensures ∙ whole-part (replicate 12 0) s 21 12 12 refl (omega arith) refl)
+    (c .before .before .before .copy3 .ensures ∙ whole-part (replicate 16 0) s 33 16 16 refl (omega arith) refl)
 
 pub load-keys-spec : {M : Type 1} → statement M
 load-keys-spec =
@@ -38,4 +39,5 @@ load-keys-spec =
     (λ c κs. search needs)
     (λ c. search needs)
     (λ c κs. search needs)
+    (λ c. search needs)
     returns)

@@ -1,22 +1,17 @@
--- The keys are written where no refusal stands beside them.
+-- The keys of the side that is meant, as they were made.
+use mathlib.Core.Path.{ap}
 use borrow.Author.Needs.{needs}
-use Rattle.c_keys.proofs.KeysAnswered.{keys-refused, keys-given}
+use Rattle.keys.specs.InitialKeys.{initialKeys}
+use Rattle.c_keys.proofs.KeysAnswered.{initial-keys-numbered, keys-answered}
 use Rattle.c_keys.proofs.initial_keys.Statement.{statement}
 use Rattle.c_keys.proofs.initial_keys.Tie as tie
 
 returns : tie.Need-returns
-returns c = keys-refused (c .before .before .before .before .side-by .ensures) (c .before .before .before .initial-keys .ensures) (c .before .if1 .taken)
-
-returns-2 : tie.Need-returns-2
-returns-2 c = keys-given (c .before .before .before .before .before .before .before .before .before .before .before .side-by .ensures) (c .before .before .before .before .before .before .before .before .before .before .initial-keys .ensures) (c .before .before .before .before .before .before .before .before .if1 .left) (c .key-bytes .ensures)
+returns c =
+    let a = c .before .before .before .before .before .args in
+    keys-answered (ap (initialKeys (a .version) (a .destination .now)) (c .before .before .before .side-by .ensures)) (initial-keys-numbered _ _ _)
+    (c .before .before .initial-keys .ensures) (c .report-keys .ensures)
 
 pub initial-keys-spec : {M : Type 1} → statement M
 initial-keys-spec =
-    tie.close
-    (tie.spec
-    (λ c κs. search needs)
-    (λ c κs. search needs)
-    (λ c. search needs)
-    returns
-    (λ c κs. search needs)
-    returns-2)
+    tie.close (tie.spec (λ c κs. search needs) (λ c κs. search needs) (λ c κs. search needs) returns)
