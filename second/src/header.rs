@@ -1,6 +1,8 @@
-//! Long headers (RFC 9000 section 17.2): their fields in turn, and the header of an Initial packet.
+//! Long headers (RFC 9000 section 17.2): their fields in turn, and the header of Initial, 0-RTT and Handshake packets.
 
 use crate::integer;
+use crate::keys::Keys;
+use crate::level::Level;
 use crate::refusal::{ensure, Refusal};
 use crate::version::{version, Version};
 
@@ -40,10 +42,14 @@ impl Place {
     }
 }
 
-/// What reading an Initial's header answers.
+/// The place that is answered where a packet has no token field.
+const NO_TOKEN: Place = Place { at: 0, length: 0 };
+
+/// What reading a header answers.
 #[derive(Clone, Debug, PartialEq, Eq)]
 pub struct Header {
     pub version: u32,
+    pub level: Level,
     pub destination: Place,
     pub source: Place,
     pub token: Place,
@@ -54,11 +60,11 @@ pub struct Header {
 
 impl Header {
     /// The report of the C interface.
-    pub fn words(&self) -> [u64; 9] {
+    pub fn words(&self) -> [u64; 10] {
         let start = start_words(self.version, [self.destination, self.source, self.token]);
-        let mut words = [0; 9];
+        let mut words = [0; 10];
         words[..7].copy_from_slice(&start);
-        words[7..].copy_from_slice(&[self.length, self.number_at as u64]);
+        words[7..].copy_from_slice(&[self.length, self.number_at as u64, u64::from(self.level.number())]);
         words
     }
 
@@ -102,18 +108,19 @@ impl<'a> Fields<'a> {
         Ok(place)
     }
 
-    /// A version that is known and, where keys are at hand, theirs; then the type that stands in the first byte.
-    fn version(&mut self, of_keys: Option<u32>, packet_type: fn(&Version) -> u8) -> Result<&'static Version, Refusal> {
+    /// A version that is known.
+    pub fn version(&mut self) -> Result<&'static Version, Refusal> {
         let field = self.take(4)?.of(self.datagram);
-        let version = version(u32::from_be_bytes(field.try_into().expect("four bytes")))?;
-        ensure(of_keys.is_none_or(|of_keys| of_keys == version.number), Refusal::Version)?;
-        let type_bits = (self.datagram[0] & TYPE_BITS) >> 4;
-        ensure(type_bits == packet_type(version), Refusal::PacketType)?;
-        Ok(version)
+        version(u32::from_be_bytes(field.try_into().expect("four bytes")))
+    }
+
+    /// The type, which stands in the first byte and means what the version says.
+    pub fn packet_type(&self) -> u8 {
+        (self.datagram[0] & TYPE_BITS) >> 4
     }
 
     /// A connection ID behind its length byte. Its length is judged before its bytes are looked for.
-    fn connection_id(&mut self) -> Result<Place, Refusal> {
+    pub fn connection_id(&mut self) -> Result<Place, Refusal> {
         let length = self.take(1)?.of(self.datagram)[0];
         ensure(usize::from(length) <= LONGEST_ID, Refusal::ConnectionId)?;
         self.take(u64::from(length))
@@ -125,48 +132,33 @@ impl<'a> Fields<'a> {
         self.at += taken;
         Ok(value)
     }
+
+    /// A token behind its length.
+    fn token(&mut self) -> Result<Place, Refusal> {
+        let length = self.integer()?;
+        self.take(length)
+    }
 }
 
-/// What Initial and Retry packets have in common behind their first byte.
-pub(crate) struct Start {
-    pub version: &'static Version,
-    pub destination: Place,
-    pub source: Place,
-}
-
-/// RFC 9000 section 17.2: version, type and both connection IDs.
-pub(crate) fn read_start(
-    fields: &mut Fields,
-    of_keys: Option<u32>,
-    packet_type: fn(&Version) -> u8,
-) -> Result<Start, Refusal> {
-    let version = fields.version(of_keys, packet_type)?;
+/// RFC 9000 sections 17.2.2 to 17.2.4: the header of a packet that is protected by keys. Opening has them, and then
+/// version and type are judged by theirs.
+pub(crate) fn read_protected(datagram: &[u8], keys: Option<&Keys>) -> Result<Header, Refusal> {
+    let mut fields = Fields::of(datagram)?;
+    let version = fields.version()?;
+    ensure(keys.is_none_or(|keys| keys.version == version.number), Refusal::Version)?;
+    let level = version.level(fields.packet_type())?;
+    ensure(keys.is_none_or(|keys| keys.level == level.number()), Refusal::PacketType)?;
     let destination = fields.connection_id()?;
     let source = fields.connection_id()?;
-    Ok(Start { version, destination, source })
-}
-
-/// RFC 9000 section 17.2.2: the header of an Initial, which opening reads with its keys' version.
-pub(crate) fn read_initial(datagram: &[u8], of_keys: Option<u32>) -> Result<Header, Refusal> {
-    let mut fields = Fields::of(datagram)?;
-    let start = read_start(&mut fields, of_keys, |version| version.initial_type)?;
-    let token_length = fields.integer()?;
-    let token = fields.take(token_length)?;
+    let token = if level.has_token() { fields.token()? } else { NO_TOKEN };
     let length = fields.integer()?;
     // the scope: Length is judged (7) before its end is looked for (3)
     ensure(length >= (SAMPLE_OFFSET + SAMPLE) as u64, Refusal::Length)?;
     let number_at = fields.take(length)?.at;
-    Ok(Header {
-        version: start.version.number,
-        destination: start.destination,
-        source: start.source,
-        token,
-        length,
-        number_at,
-    })
+    Ok(Header { version: version.number, level, destination, source, token, length, number_at })
 }
 
-/// Reads an Initial's header without keys, of either version.
+/// Reads a header without keys, of either version and any level.
 pub fn read_header(datagram: &[u8]) -> Result<Header, Refusal> {
-    read_initial(datagram, None)
+    read_protected(datagram, None)
 }

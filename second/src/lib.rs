@@ -1,5 +1,5 @@
-//! The second program's own reading of the papers: QUIC Initial and Retry packets of version 1 and of the version 2
-//! draft, from the hash upwards.
+//! The second program's own reading of the papers: QUIC Initial, 0-RTT, Handshake and Retry packets of version 1 and of
+//! the version 2 draft, from the hash upwards.
 //!
 //! It is written from FIPS 180-4, RFC 2104, RFC 5869, FIPS 197, SP 800-38D, RFC 9000, RFC 9001, the version 2 draft
 //! (document 003) and the scope of work (docs/SCOPE.md, which decides), and shares no code and no table with the proved
@@ -12,6 +12,7 @@ pub mod hex;
 pub mod hkdf;
 pub mod integer;
 pub mod keys;
+pub mod level;
 pub mod numbers;
 pub mod open;
 pub mod receiver;

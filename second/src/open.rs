@@ -1,7 +1,7 @@
-//! Opening an Initial packet (RFC 9001 sections 5.3 and 5.4, RFC 9000 appendix A.3).
+//! Opening Initial, 0-RTT and Handshake packets (RFC 9001 sections 5.3 and 5.4, RFC 9000 appendix A.3).
 
 use crate::gcm::Gcm;
-use crate::header::{read_initial, NUMBER_LENGTH_BITS, RESERVED_BITS, TAG};
+use crate::header::{read_protected, NUMBER_LENGTH_BITS, RESERVED_BITS, TAG};
 use crate::keys::Keys;
 use crate::numbers::{recover, NUMBER_LIMIT};
 use crate::refusal::{ensure, Refusal};
@@ -28,12 +28,12 @@ impl Opened {
     }
 }
 
-/// Opens the packet at the datagram's start. The output then holds plain header and payload, and the expected number is
+/// Opens the packet at the datagram's start, of the keys' level. The output then holds plain header and payload, and the expected number is
 /// above the one opened; a refusal leaves both as they were.
 pub fn open(keys: &Keys, expected: &mut u64, datagram: &[u8], output: &mut [u8]) -> Result<Opened, Refusal> {
     ensure(*expected <= NUMBER_LIMIT, Refusal::NumberRange)?;
     version(keys.version)?;
-    let header = read_initial(datagram, Some(keys.version))?;
+    let header = read_protected(datagram, Some(keys))?;
     let packet = &datagram[..header.packet_length()];
     let plain_length = packet.len() - TAG;
     ensure(plain_length <= output.len(), Refusal::Output)?;

@@ -2,7 +2,7 @@
 
 use crate::header::{read_header, Header, TAG};
 use crate::integer;
-use crate::keys::{initial_keys, Keys, Side};
+use crate::keys::{initial_keys, install_keys, Keys, Side};
 use crate::numbers::NUMBER_LIMIT;
 use crate::open::{open, Opened};
 use crate::refusal::Refusal;
@@ -25,6 +25,24 @@ fn of_keys() {
     assert_eq!(numbered(initial_keys(2, &[0; 21], Side::Client)), 4);
 }
 
+/// 4, then 6: the Initial level, a number that names none, and 0-RTT for a server.
+#[test]
+fn of_installing_keys() {
+    for version in [1, 0x709a_50c4] {
+        let installed = |level, side| numbered(install_keys(version, level, side, &[7; 32]));
+        assert_eq!(installed(1, Side::Client), 0);
+        assert_eq!(installed(2, Side::Client), 0);
+        assert_eq!(installed(2, Side::Server), 0);
+        assert_eq!(installed(1, Side::Server), 6);
+        for none in [0, 3, 4, 255, 256, 257, 258, 0x1_0001, 0x8000_0002, u32::MAX] {
+            assert_eq!(installed(none, Side::Client), 6, "level {none}");
+            assert_eq!(installed(none, Side::Server), 6, "level {none}");
+        }
+    }
+    assert_eq!(numbered(install_keys(2, 0, Side::Client, &[7; 32])), 4);
+    assert_eq!(numbered(install_keys(2, 1, Side::Server, &[7; 32])), 4);
+}
+
 /// Faults added one in front of the other: each hides those behind it.
 #[test]
 fn of_sealing() {
@@ -36,7 +54,7 @@ fn of_sealing() {
         number_length: 1,
         destination: &[],
         source: &[],
-        token: &[],
+        token: Some(&[]),
         payload: &payload,
     };
     let sealed = |keys: &Keys, plain: &Plain| {
@@ -48,7 +66,7 @@ fn of_sealing() {
     assert_eq!(sealed(&keys, &plain), 0);
     plain.destination = &long_id[..1];
     assert_eq!(sealed(&keys, &plain), 8);
-    plain.token = &token;
+    plain.token = Some(&token);
     assert_eq!(sealed(&keys, &plain), 1);
     plain.payload = &small;
     assert_eq!(sealed(&keys, &plain), 7);
@@ -60,8 +78,32 @@ fn of_sealing() {
     assert_eq!(sealed(&keys, &plain), 14);
     plain.number = NUMBER_LIMIT;
     assert_eq!(sealed(&keys, &plain), 10);
+    keys.level = 2;
+    assert_eq!(sealed(&keys, &plain), 6);
+    plain.token = None;
+    assert_eq!(sealed(&keys, &plain), 10);
     keys.version = 2;
     assert_eq!(sealed(&keys, &plain), 4);
+}
+
+/// A token goes with the Initial level, even an empty one, and none with the others. An unnamed level goes with nothing.
+#[test]
+fn of_sealing_at_each_level() {
+    for level in 0..=255 {
+        let keys = Keys { level, ..keys() };
+        let with = |token| Plain {
+            number: 0,
+            acknowledged: None,
+            number_length: 4,
+            destination: &[],
+            source: &[],
+            token,
+            payload: &[],
+        };
+        let sealed = |token| numbered(seal(&keys, &with(token), &mut [0; 60]));
+        assert_eq!(sealed(Some(&[])), if level == 0 { 0 } else { 6 });
+        assert_eq!(sealed(None), if level == 1 || level == 2 { 0 } else { 6 });
+    }
 }
 
 /// A slice of a million bytes is 1, after what stands before it.
@@ -74,7 +116,7 @@ fn of_sealing_much() {
         number_length: 1,
         destination: &[],
         source: &[],
-        token: &million,
+        token: Some(&million),
         payload: &million,
     };
     assert_eq!(numbered(seal(&keys(), &plain, &mut [])), 1);
@@ -139,9 +181,24 @@ fn of_opening_at_the_start() {
     assert_eq!(opened(&keys(), 0, &of_version(0xff, 0x709a_50c4), 0), 4);
     assert_eq!(opened(&keys(), 0, &of_version(0xd0, 1), 0), 6);
     assert_eq!(opened(&keys(), 0, &of_version(0xc0, 1), 0), 3);
-    // type 0 is a Retry in the version 2 draft, and its Initial is type 1
-    assert_eq!(numbered(read_header(&of_version(0xc0, 0x709a_50c4))), 6);
-    assert_eq!(numbered(read_header(&of_version(0xd0, 0x709a_50c4))), 3);
+}
+
+/// RFC 9000 section 17.2 and document 003 section 3.2: the types of Initial, 0-RTT, Handshake and Retry.
+#[test]
+fn of_the_types() {
+    for (version, types) in [(1_u32, [0, 1, 2, 3]), (0x709a_50c4, [1, 2, 3, 0])] {
+        for (place, packet_type) in types.into_iter().enumerate() {
+            let start = [&[0xc0 | packet_type << 4][..], &version.to_be_bytes()].concat();
+            // only a Retry is refused before the IDs are found to be missing
+            assert_eq!(numbered(read_header(&start)), if place == 3 { 6 } else { 3 });
+            assert_eq!(numbered(check_retry(&[], &start)), if place == 3 { 3 } else { 6 });
+            for level in 0..=255 {
+                let keys = Keys { version, level, ..keys() };
+                let of_level = place < 3 && usize::from(level) == place;
+                assert_eq!(opened(&keys, 0, &start, 0), if of_level { 3 } else { 6 });
+            }
+        }
+    }
 }
 
 /// The fields as they stand, each whole before it is right.
@@ -167,6 +224,25 @@ fn of_the_fields() {
     assert_eq!(read(&[&[0, 0, 0, 20][..], &[0; 20]].concat()), 0);
 }
 
+/// Without a token Length stands right behind the source ID: what would be a token's length is 7 or ends too late.
+#[test]
+fn of_the_fields_without_a_token() {
+    for first in [0xd0, 0xe0] {
+        let read = |behind_version: &[u8]| read_header(&[&[first, 0, 0, 0, 1], behind_version].concat());
+        assert_eq!(numbered(read(&[0, 0])), 3);
+        assert_eq!(numbered(read(&[0, 0, 0])), 7);
+        assert_eq!(numbered(read(&[0, 0, 19])), 7);
+        assert_eq!(numbered(read(&[0, 0, 20])), 3);
+        assert_eq!(numbered(read(&[&[0, 0, 0, 20][..], &[0; 20]].concat())), 7);
+        let header = read(&[&[0, 1, 9, 20][..], &[0; 20]].concat()).expect("a whole packet");
+        let level = u64::from(first >> 4 & 3);
+        assert_eq!(header.words(), [1, 6, 0, 7, 1, 0, 0, 20, 9, level]);
+    }
+    // an empty token of an Initial keeps its place
+    let header = read_header(&[&[0xc0, 0, 0, 0, 1, 0, 1, 9, 0, 20][..], &[0; 20]].concat()).expect("a whole packet");
+    assert_eq!(header.words(), [1, 6, 0, 7, 1, 9, 0, 20, 10, 0]);
+}
+
 /// Any form of Length opens, and the bytes behind the packet aren't looked at.
 #[test]
 fn of_forms_and_bytes_behind() {
@@ -181,7 +257,7 @@ fn of_forms_and_bytes_behind() {
         assert_eq!(open(&keys(), &mut 0, &datagram, &mut output), Ok(record));
         assert_eq!(output[header_length..bytes_used - TAG], [5; 30]);
         let header = read_header(&datagram).map(|header: Header| header.words());
-        assert_eq!(header, Ok([1, 6, 1, 8, 2, 12, 3, length, 15 + form as u64]));
+        assert_eq!(header, Ok([1, 6, 1, 8, 2, 12, 3, length, 15 + form as u64, 0]));
     }
 }
 

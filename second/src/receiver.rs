@@ -1,4 +1,4 @@
-//! A model of a receiver: what a list of arrivals must yield, whatever is lost, repeated, late or rubbish.
+//! A model of a receiver at one level: what a list of arrivals must yield, whatever is lost, repeated, late or rubbish.
 
 use crate::keys::Keys;
 use crate::numbers::NUMBER_LIMIT;

@@ -14,7 +14,7 @@ pub enum Refusal {
     Version = 4,
     /// a connection ID is over 20 bytes
     ConnectionId = 5,
-    /// another packet type
+    /// the packet's type isn't of the keys' level, or the level isn't one for the operation
     PacketType = 6,
     /// Length is below 20, or in sealing number length plus payload is below 4
     Length = 7,

@@ -1,7 +1,7 @@
 //! Retry packets (RFC 9000 section 17.2.5, RFC 9001 section 5.8).
 
 use crate::gcm::Gcm;
-use crate::header::{read_start, start_words, Fields, Place, FIXED_BIT, FORM_BIT, LARGEST_DATAGRAM, LONGEST_ID, TAG};
+use crate::header::{start_words, Fields, Place, FIXED_BIT, FORM_BIT, LARGEST_DATAGRAM, LONGEST_ID, TAG};
 use crate::refusal::{ensure, Refusal};
 use crate::version::{version, Version};
 
@@ -61,13 +61,16 @@ pub fn write_retry(plain: &Plain, output: &mut [u8]) -> Result<usize, Refusal> {
 pub fn check_retry(original: &[u8], datagram: &[u8]) -> Result<Checked, Refusal> {
     ensure(original.len() <= LONGEST_ID, Refusal::ConnectionId)?;
     let mut fields = Fields::of(datagram)?;
-    let start = read_start(&mut fields, None, |version| version.retry_type)?;
+    let version = fields.version()?;
+    ensure(fields.packet_type() == version.retry_type, Refusal::PacketType)?;
+    let destination = fields.connection_id()?;
+    let source = fields.connection_id()?;
     ensure(fields.left() >= TAG, Refusal::NotWhole)?;
     ensure(fields.left() > TAG, Refusal::EmptyToken)?;
     let token = Place { at: fields.at, length: fields.left() - TAG };
     let (packet, tag) = datagram.split_at(datagram.len() - TAG);
-    ensure(integrity_tag(start.version, original, packet) == tag, Refusal::Tag)?;
-    Ok(Checked { version: start.version.number, destination: start.destination, source: start.source, token })
+    ensure(integrity_tag(version, original, packet) == tag, Refusal::Tag)?;
+    Ok(Checked { version: version.number, destination, source, token })
 }
 
 /// RFC 9001 section 5.8: the tag of nothing, with the Retry Pseudo-Packet as associated data.

@@ -1,4 +1,4 @@
-//! Sealing an Initial packet (RFC 9000 section 17.2.2, RFC 9001 sections 5.3 and 5.4).
+//! Sealing Initial, 0-RTT and Handshake packets (RFC 9000 sections 17.2.2 to 17.2.4, RFC 9001 sections 5.3 and 5.4).
 
 use crate::aes::Aes128;
 use crate::gcm::Gcm;
@@ -7,6 +7,7 @@ use crate::header::{
 };
 use crate::integer;
 use crate::keys::Keys;
+use crate::level::Level;
 use crate::numbers::shorten;
 use crate::refusal::{ensure, Refusal};
 use crate::version::version;
@@ -19,13 +20,16 @@ pub struct Plain<'a> {
     pub number_length: usize,
     pub destination: &'a [u8],
     pub source: &'a [u8],
-    pub token: &'a [u8],
+    /// none for a packet without a token field, which is another thing than an empty token
+    pub token: Option<&'a [u8]>,
     pub payload: &'a [u8],
 }
 
 /// Writes the packet to the output's start and answers its length; what stands behind stays.
 pub fn seal(keys: &Keys, plain: &Plain, output: &mut [u8]) -> Result<usize, Refusal> {
     let version = version(keys.version)?;
+    let level = Level::named(u32::from(keys.level)).ok_or(Refusal::PacketType)?;
+    ensure(level.has_token() == plain.token.is_some(), Refusal::PacketType)?;
     shorten(plain.number, plain.acknowledged, plain.number_length)?;
     let ids_fit = plain.destination.len() <= LONGEST_ID && plain.source.len() <= LONGEST_ID;
     ensure(ids_fit, Refusal::ConnectionId)?;
@@ -33,7 +37,7 @@ pub fn seal(keys: &Keys, plain: &Plain, output: &mut [u8]) -> Result<usize, Refu
     ensure(plain.number_length + plain.payload.len() >= SAMPLE_OFFSET + SAMPLE - TAG, Refusal::Length)?;
     ensure(packet_length(plain) <= LARGEST_DATAGRAM as u128, Refusal::Size)?;
 
-    let first = FORM_BIT | FIXED_BIT | version.initial_type << 4 | (plain.number_length - 1) as u8;
+    let first = FORM_BIT | FIXED_BIT | level.packet_type(version) << 4 | (plain.number_length - 1) as u8;
     let length = (plain.number_length + plain.payload.len() + TAG) as u64;
     let mut header = vec![first];
     header.extend(version.number.to_be_bytes());
@@ -41,8 +45,10 @@ pub fn seal(keys: &Keys, plain: &Plain, output: &mut [u8]) -> Result<usize, Refu
         header.push(id.len() as u8);
         header.extend(id);
     }
-    header.extend(integer::write(plain.token.len() as u64));
-    header.extend(plain.token);
+    if let Some(token) = plain.token {
+        header.extend(integer::write(token.len() as u64));
+        header.extend(token);
+    }
     header.extend(integer::write_in(2, length));
     let packet = protect(keys, header, plain.number, plain.number_length, plain.payload);
 
@@ -53,16 +59,23 @@ pub fn seal(keys: &Keys, plain: &Plain, output: &mut [u8]) -> Result<usize, Refu
 
 /// The bytes of the whole packet, over whole numbers, so that slices of any length may come.
 fn packet_length(plain: &Plain) -> u128 {
-    let token_length_bytes = match plain.token.len() {
+    let fixed = 1 + 4 + 1 + 1 + 2 + TAG as u128;
+    let parts = [plain.destination.len(), plain.source.len(), plain.number_length, plain.payload.len()];
+    fixed + parts.map(|length| length as u128).iter().sum::<u128>() + token_field_length(plain.token)
+}
+
+/// The bytes of the token with its length, where there is such a field.
+fn token_field_length(token: Option<&[u8]>) -> u128 {
+    let Some(token) = token else {
+        return 0;
+    };
+    let length_bytes = match token.len() {
         0..64 => 1,
         64..16_384 => 2,
         // longer ones alone are over the limit
         _ => 4,
     };
-    let fixed = 1 + 4 + 1 + 1 + token_length_bytes + 2 + TAG as u128;
-    let parts =
-        [plain.destination.len(), plain.source.len(), plain.token.len(), plain.number_length, plain.payload.len()];
-    fixed + parts.map(|length| length as u128).iter().sum::<u128>()
+    length_bytes + token.len() as u128
 }
 
 /// Encrypts a payload behind a header that ends before the number, and then protects the header.

@@ -1,8 +1,10 @@
-//! The public packets: RFC 9001 appendix A, document 003 appendix A, and the scope's lines on sealing.
+//! The public packets: RFC 9001 appendix A, document 003 appendix A, and the scope's lines on sealing; and packets of the
+//! other levels, which no paper prints.
 
 use crate::header::{read_header, Place};
 use crate::hex;
-use crate::keys::{initial_keys, Keys, Side};
+use crate::keys::{initial_keys, install_keys, Keys, Secret, Side, LEVEL_AT};
+use crate::level::Level;
 use crate::open::{open, Opened};
 use crate::refusal::Refusal;
 use crate::retry::{self, check_retry, write_retry};
@@ -32,28 +34,66 @@ fn keys_of(version: u32, side: Side) -> Keys {
     initial_keys(version, &hex::bytes(CLIENT_ID), side).expect("a known version and eight bytes")
 }
 
-/// A.1 of both appendices: key, iv and hp of client and server.
+/// A.1 of both appendices, for a version and a side: the secret, and the key, iv and hp that it gives.
+const A1: [(u32, Side, &str, &str); 4] = [
+    (
+        1,
+        Side::Client,
+        "c00cf151ca5be075ed0ebfb5c80323c42d6b7db67881289af4008f1f6c357aea",
+        "1f369613dd76d5467730efcbe3b1a22dfa044b2f42a3fd3b46fb255c9f50449e04a0e810283a1e9933adedd2",
+    ),
+    (
+        1,
+        Side::Server,
+        "3c199828fd139efd216c155ad844cc81fb82fa8d7446fa7d78be803acdda951b",
+        "cf3a5331653c364c88f0f379b6067e370ac1493ca1905853b0bba03ec206b8d9b9f0f37644430b490eeaa314",
+    ),
+    (
+        0x709a_50c4,
+        Side::Client,
+        "9fe72e1452e91f551b770005054034e47575d4a0fb4c27b7c6cb303a338423ae",
+        "95df2be2e8d549c82e996fc9339f4563ea5e3c95f933db14b7020ad8091efb735702447d07908f6501845794",
+    ),
+    (
+        0x709a_50c4,
+        Side::Server,
+        "3c9bf6a9c1c8c71819876967bd8b979efd98ec665edf27f22c06e9845ba0ae2f",
+        "15d5b4d9a2b8916aa39b1bfe574d2aada85e7ac31cd275cbb095c626b13861cfadbb9d11ff942dd80c8fc33b",
+    ),
+];
+
+/// The secret that A.1 prints for a version and a side.
+fn secret(version: u32, side: Side) -> Secret {
+    let line = A1.into_iter().find(|line| (line.0, line.1) == (version, side)).expect("a known version");
+    hex::bytes(line.2).try_into().expect("32 bytes")
+}
+
+fn check_record(keys: &Keys, version: u32, level: Level, parts: &str) {
+    let record = keys.to_record();
+    assert_eq!(record[..LEVEL_AT], version.to_be_bytes());
+    assert_eq!(record[LEVEL_AT], level.number());
+    assert_eq!(hex::text(&record[LEVEL_AT + 1..]), parts);
+    assert_eq!(Keys::from_record(&record), *keys);
+}
+
 #[test]
 fn initial_key_parts() {
-    let lines = [
-        (1, Side::Client, "1f369613dd76d5467730efcbe3b1a22dfa044b2f42a3fd3b46fb255c9f50449e04a0e810283a1e9933adedd2"),
-        (1, Side::Server, "cf3a5331653c364c88f0f379b6067e370ac1493ca1905853b0bba03ec206b8d9b9f0f37644430b490eeaa314"),
-        (
-            0x709a_50c4,
-            Side::Client,
-            "95df2be2e8d549c82e996fc9339f4563ea5e3c95f933db14b7020ad8091efb735702447d07908f6501845794",
-        ),
-        (
-            0x709a_50c4,
-            Side::Server,
-            "15d5b4d9a2b8916aa39b1bfe574d2aada85e7ac31cd275cbb095c626b13861cfadbb9d11ff942dd80c8fc33b",
-        ),
-    ];
-    for (version, side, parts) in lines {
-        let record = keys_of(version, side).to_record();
-        assert_eq!(record[..4], version.to_be_bytes());
-        assert_eq!(hex::text(&record[4..]), parts);
-        assert_eq!(Keys::from_record(&record), keys_of(version, side));
+    for (version, side, _, parts) in A1 {
+        check_record(&keys_of(version, side), version, Level::Initial, parts);
+    }
+}
+
+/// Section 5.1 of RFC 9001 has one rule for every level: so the secrets of A.1, installed, give the keys of A.1.
+#[test]
+fn installed_key_parts() {
+    for (version, side, _, parts) in A1 {
+        for level in [Level::ZeroRtt, Level::Handshake] {
+            let keys = install_keys(version, u32::from(level.number()), side, &secret(version, side));
+            match (level, side) {
+                (Level::ZeroRtt, Side::Server) => assert_eq!(keys, Err(Refusal::PacketType)),
+                _ => check_record(&keys.expect("a level that is installed"), version, level, parts),
+            }
+        }
     }
 }
 
@@ -64,7 +104,7 @@ fn check_packet(keys: &Keys, plain: &Plain, packet: &[u8], header_length: usize)
     assert_eq!(hex::text(&output[..packet.len()]), hex::text(packet));
     assert!(output[packet.len()..].iter().all(|byte| *byte == 0x5a));
 
-    let mut expected = 0;
+    let mut expected = plain.acknowledged.map_or(0, |acknowledged| acknowledged + 1);
     let mut output = [0x5a; 1_501];
     let opened = Opened {
         number: plain.number,
@@ -90,7 +130,7 @@ fn client_initials() {
             number_length: 4,
             destination: &hex::bytes(CLIENT_ID),
             source: &[],
-            token: &[],
+            token: Some(&[]),
             payload: &client_payload(),
         };
         check_packet(&keys_of(version, Side::Client), &plain, &hex::bytes(packet), 22);
@@ -116,14 +156,103 @@ fn server_initials() {
             number_length: 2,
             destination: &[],
             source: &hex::bytes(SERVER_ID),
-            token: &[],
+            token: Some(&[]),
             payload: &server_payload(),
         };
         let packet = hex::bytes(packet);
         check_packet(&keys_of(version, Side::Server), &plain, &packet, 20);
         let header = read_header(&packet).expect("an Initial");
-        assert_eq!(header.words(), [u64::from(version), 6, 0, 7, 8, 16, 0, 117, 18]);
+        assert_eq!(header.words(), [u64::from(version), 6, 0, 7, 8, 16, 0, 117, 18, 0]);
         assert_eq!(hex::text(header.source.of(&packet)), SERVER_ID);
+    }
+}
+
+/// A packet without a token: what it is sealed from, the place of its number, and its bytes in both versions.
+struct Tokenless {
+    level: Level,
+    side: Side,
+    plain: Plain<'static>,
+    number_at: usize,
+    packets: [&'static str; 2],
+}
+
+const ZERO_RTT: Tokenless = Tokenless {
+    level: Level::ZeroRtt,
+    side: Side::Client,
+    plain: Plain {
+        number: 0,
+        acknowledged: None,
+        number_length: 1,
+        destination: &hex::array::<8>(CLIENT_ID),
+        source: &[],
+        token: None,
+        payload: b"early data",
+    },
+    number_at: 17,
+    packets: [
+        "da00000001088394c8f03e51570800401baf25d563b6e35cc746b7c7f34da978cbc2245b1620ae792cb539fd",
+        "ef709a50c4088394c8f03e51570800401bcd7c5fb112aba6df795175b8495a86fbd3190b214c1d2624aa0636",
+    ],
+};
+
+const CLIENT_HANDSHAKE: Tokenless = Tokenless {
+    level: Level::Handshake,
+    side: Side::Client,
+    plain: Plain {
+        number: 0xac5c02,
+        acknowledged: Some(0xabe8b3),
+        number_length: 3,
+        destination: &hex::array::<8>(SERVER_ID),
+        source: &hex::array::<8>(CLIENT_ID),
+        token: None,
+        payload: b"a client's Finished",
+    },
+    number_at: 25,
+    packets: [
+        "e10000000108f067a5502a4262b5088394c8f03e51570840265245b266a505cbb5942f79b72280b6a8db54a682de7ebe6234d14c7abe\
+         91278655f5c20a1b73",
+        "f2709a50c408f067a5502a4262b5088394c8f03e5157084026f13d7afd1fdd938ff49c7c42442f56c65f7081ddc0e119f870cb7770dc\
+         2db9256ae8fa3de0ea",
+    ],
+};
+
+const SERVER_HANDSHAKE: Tokenless = Tokenless {
+    level: Level::Handshake,
+    side: Side::Server,
+    plain: Plain {
+        number: 1,
+        acknowledged: None,
+        number_length: 2,
+        destination: &[],
+        source: &hex::array::<8>(SERVER_ID),
+        token: None,
+        payload: b"a server's Certificate",
+    },
+    number_at: 17,
+    packets: [
+        "ed000000010008f067a5502a4262b540285f0439685fb5eb6cb76977dd60296b67c1bedb8e67a813ad821c8a3a4461bf3a414ef332d2\
+         4e8593",
+        "fb709a50c40008f067a5502a4262b540286f36009498d2e55fb9d7e021c7a7ac83d06f44f8241f83d43e6717121a271695f76b027447\
+         80a44a",
+    ],
+};
+
+/// No paper prints a packet of these levels under AES. These were computed with Python's cryptography package (OpenSSL's
+/// AES-128-GCM) from the secrets of A.1, by a script that shares no line with this program and isn't kept here.
+#[test]
+fn packets_without_a_token() {
+    for line in [ZERO_RTT, CLIENT_HANDSHAKE, SERVER_HANDSHAKE] {
+        for (version, packet) in VERSIONS.into_iter().zip(line.packets) {
+            let level = u32::from(line.level.number());
+            let keys = install_keys(version, level, line.side, &secret(version, line.side)).expect("a side that sends");
+            let packet = hex::bytes(packet);
+            check_packet(&keys, &line.plain, &packet, line.number_at + line.plain.number_length);
+            let header = read_header(&packet).expect("a packet with a number");
+            assert_eq!((header.level, header.number_at), (line.level, line.number_at));
+            assert_eq!(header.token, Place { at: 0, length: 0 });
+            assert_eq!(header.destination.of(&packet), line.plain.destination);
+            assert_eq!(header.source.of(&packet), line.plain.source);
+        }
     }
 }
 
@@ -180,7 +309,7 @@ fn sealing_boundaries() {
                 number_length,
                 destination: &[1; 8],
                 source: &[],
-                token: &[],
+                token: Some(&[]),
                 payload: &payload[..payload_length],
             };
             seal(&keys, &plain, &mut output)

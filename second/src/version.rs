@@ -1,6 +1,7 @@
 //! The two versions, and what differs between them (RFC 9001, document 003 section 3).
 
 use crate::hex::array;
+use crate::level::{Level, LEVELS};
 use crate::refusal::Refusal;
 
 /// What differs between versions (docs/SCOPE.md, "Constants").
@@ -11,6 +12,8 @@ pub struct Version {
     pub iv_label: &'static str,
     pub hp_label: &'static str,
     pub initial_type: u8,
+    pub zero_rtt_type: u8,
+    pub handshake_type: u8,
     pub retry_type: u8,
     pub retry_key: [u8; 16],
     pub retry_nonce: [u8; 12],
@@ -24,6 +27,8 @@ pub const VERSION_1: Version = Version {
     iv_label: "quic iv",
     hp_label: "quic hp",
     initial_type: 0,
+    zero_rtt_type: 1,
+    handshake_type: 2,
     retry_type: 3,
     retry_key: array("be0c690b9f66575a1d766b54e368c84e"),
     retry_nonce: array("461599d35d632bf2239825bb"),
@@ -37,10 +42,19 @@ pub const VERSION_2_DRAFT: Version = Version {
     iv_label: "quicv2 iv",
     hp_label: "quicv2 hp",
     initial_type: 1,
+    zero_rtt_type: 2,
+    handshake_type: 3,
     retry_type: 0,
     retry_key: array("ba858dc7b43de5dbf87617ff4ab253db"),
     retry_nonce: array("141b99c239b03e785d6a2e9f"),
 };
+
+impl Version {
+    /// The level of a type's packets, or refusal 6: a Retry has none.
+    pub fn level(&self, packet_type: u8) -> Result<Level, Refusal> {
+        LEVELS.into_iter().find(|level| level.packet_type(self) == packet_type).ok_or(Refusal::PacketType)
+    }
+}
 
 /// The version of that number, or refusal 4.
 pub fn version(number: u32) -> Result<&'static Version, Refusal> {
