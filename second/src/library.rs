@@ -5,6 +5,7 @@
 //! and the output.
 
 use crate::effect::Effect;
+use second::keys::{Record, Secret};
 use second::retry::Plain;
 
 #[link(name = "driftwicket", kind = "static")]
@@ -15,6 +16,7 @@ extern "C" {
     fn dw_recover(expected: u64, truncated: u64, length: usize, report: *mut u64) -> u32;
     fn dw_initial_keys(version: u32, destination: *const u8, destination_len: usize, server: u32, keys: *mut u8)
         -> u32;
+    fn dw_install_keys(version: u32, level: u32, server: u32, secret: *const u8, keys: *mut u8) -> u32;
     fn dw_seal(
         keys: *const u8,
         number: u64,
@@ -27,6 +29,22 @@ extern "C" {
         source_len: usize,
         token: *const u8,
         token_len: usize,
+        payload: *const u8,
+        payload_len: usize,
+        out: *mut u8,
+        out_len: usize,
+        report: *mut u64,
+    ) -> u32;
+    fn dw_seal_long(
+        keys: *const u8,
+        number: u64,
+        any_acknowledged: u32,
+        acknowledged: u64,
+        length: usize,
+        destination: *const u8,
+        destination_len: usize,
+        source: *const u8,
+        source_len: usize,
         payload: *const u8,
         payload_len: usize,
         out: *mut u8,
@@ -185,7 +203,7 @@ impl<'a, const WORDS: usize> Loan<'a, WORDS> {
 }
 
 // SAFETY, for every call below: each pointer comes from a loan, which outlives the call, and stands at as many bytes or
-// words as the call is told; keys are 48 bytes; a loan's report has the words that the C interface names. An empty
+// words as the call is told; keys are 49 bytes and a secret is 32; a loan's report has the words that the C interface names. An empty
 // slice's pointer is not null.
 
 pub fn read_integer(bytes: &[u8]) -> Effect<2> {
@@ -214,28 +232,35 @@ pub fn recover(expected: u64, truncated: u64, length: usize) -> Effect<1> {
 }
 
 /// The keys are the output; there is no report.
-pub fn initial_keys(version: u32, destination: &[u8], server: u32, keys: &[u8; 48]) -> Effect<0> {
+pub fn initial_keys(version: u32, destination: &[u8], server: u32, keys: &Record) -> Effect<0> {
     let mut loan = Loan::new(keys, 0);
     let [at] = loan.read([destination]);
     let number = unsafe { dw_initial_keys(version, at, destination.len(), server, loan.output.pointer()) };
     loan.effect(number)
 }
 
-/// The arguments of sealing, as the C interface takes them.
+/// The keys are the output; there is no report.
+pub fn install_keys(version: u32, level: u32, server: u32, secret: &Secret, keys: &Record) -> Effect<0> {
+    let mut loan = Loan::new(keys, 0);
+    let [secret_at] = loan.read([secret]);
+    let number = unsafe { dw_install_keys(version, level, server, secret_at, loan.output.pointer()) };
+    loan.effect(number)
+}
+
+/// The arguments of sealing, as the C interface takes them; the token aside, which one of its two forms takes.
 pub struct SealArguments<'a> {
-    pub keys: &'a [u8; 48],
+    pub keys: &'a Record,
     pub number: u64,
     pub any_acknowledged: u32,
     pub acknowledged: u64,
     pub length: usize,
     pub destination: &'a [u8],
     pub source: &'a [u8],
-    pub token: &'a [u8],
     pub payload: &'a [u8],
 }
 
-pub fn seal(arguments: &SealArguments, output: &[u8]) -> Effect<1> {
-    let SealArguments { keys, number, any_acknowledged, acknowledged, length, destination, source, token, payload } =
+pub fn seal(arguments: &SealArguments, token: &[u8], output: &[u8]) -> Effect<1> {
+    let SealArguments { keys, number, any_acknowledged, acknowledged, length, destination, source, payload } =
         *arguments;
     let mut loan = Loan::new(output, 0);
     let [keys_at, destination_at, source_at, token_at, payload_at] =
@@ -263,7 +288,33 @@ pub fn seal(arguments: &SealArguments, output: &[u8]) -> Effect<1> {
     loan.effect(number)
 }
 
-pub fn open(keys: &[u8; 48], expected: u64, datagram: &[u8], output: &[u8]) -> Effect<5> {
+pub fn seal_long(arguments: &SealArguments, output: &[u8]) -> Effect<1> {
+    let SealArguments { keys, number, any_acknowledged, acknowledged, length, destination, source, payload } =
+        *arguments;
+    let mut loan = Loan::new(output, 0);
+    let [keys_at, destination_at, source_at, payload_at] = loan.read([keys, destination, source, payload]);
+    let number = unsafe {
+        dw_seal_long(
+            keys_at,
+            number,
+            any_acknowledged,
+            acknowledged,
+            length,
+            destination_at,
+            destination.len(),
+            source_at,
+            source.len(),
+            payload_at,
+            payload.len(),
+            loan.output.pointer(),
+            output.len(),
+            loan.report.pointer(),
+        )
+    };
+    loan.effect(number)
+}
+
+pub fn open(keys: &Record, expected: u64, datagram: &[u8], output: &[u8]) -> Effect<5> {
     let mut loan = Loan::new(output, expected);
     let [keys_at, datagram_at] = loan.read([keys, datagram]);
     let number = unsafe {
@@ -280,7 +331,7 @@ pub fn open(keys: &[u8; 48], expected: u64, datagram: &[u8], output: &[u8]) -> E
     loan.effect(number)
 }
 
-pub fn read_header(datagram: &[u8]) -> Effect<9> {
+pub fn read_header(datagram: &[u8]) -> Effect<10> {
     let mut loan = Loan::new(&[], 0);
     let [at] = loan.read([datagram]);
     let number = unsafe { dw_read_header(at, datagram.len(), loan.report.pointer()) };

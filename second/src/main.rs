@@ -3,7 +3,7 @@
 //! byte and the expected number.
 //!
 //!     make lib                                      in the repository's root: the static library
-//!     cargo run --release                           about 1.3 million comparisons
+//!     cargo run --release                           about 1.4 million comparisons
 //!     cargo run --release -- 10                     ten times as many
 //!     cargo run --release -- 1 --seed 12345         others
 //!     cargo test --lib                              the public vectors, by the second program alone

@@ -1,12 +1,13 @@
-//! An Initial on its way to `dw_open` or `dw_read_header`, and every fault that it can have, in the order in which
-//! the scope judges them.
+//! A packet on its way to `dw_open` or `dw_read_header`, and every fault that it can have, in the order in which the
+//! scope judges them.
 
 use super::draft::{expected_for, Draft, Fields, Id};
 use super::faults::Fault;
-use super::sample::{self, VERSIONS};
+use super::sample::{self, Kind, VERSIONS};
 use crate::random::Random;
-use second::header::{FIXED_BIT, FORM_BIT};
-use second::keys::Keys;
+use second::header::{FIXED_BIT, FORM_BIT, TYPE_BITS};
+use second::keys::{Keys, Record, LEVEL_AT};
+use second::level::Level;
 use second::numbers::NUMBER_LIMIT;
 
 /// How many bytes are left of a packet with such fields.
@@ -14,7 +15,7 @@ type Cut = fn(&Fields) -> usize;
 
 /// An arrival with everything that decides about its opening.
 pub struct Arrival {
-    pub record: [u8; 48],
+    pub record: Record,
     pub expected: u64,
     pub draft: Draft,
     /// how many bytes the output lacks
@@ -28,16 +29,16 @@ pub struct Arrival {
 }
 
 impl Arrival {
-    /// A good packet, in which no part is empty and the sample doesn't reach into the tag.
-    pub fn valid(random: &mut Random) -> Arrival {
-        let version = sample::known_version(random);
+    /// A good packet of a level, in which no part is empty and the sample doesn't reach into the tag.
+    pub fn valid(random: &mut Random, level: Level) -> Arrival {
+        let kind = Kind { version: sample::known_version(random), level };
         let (token, payload) = (random.between(1..=70), random.between(20..=70));
-        let mut draft = Draft::valid(random, version, token, payload);
+        let mut draft = Draft::valid(random, kind, token, payload);
         let (destination, source) = (random.between(1..=20), random.between(1..=20));
         draft.destination = Id::new(random.bytes(destination));
         draft.source = Id::new(random.bytes(source));
         Arrival {
-            record: sample::record(random, version),
+            record: sample::record(random, kind),
             expected: expected_for(random, draft.number, draft.number_length),
             draft,
             short_of_room: 0,
@@ -77,38 +78,65 @@ const CALLER_FAULTS: [Fault<Arrival>; 2] = [
     (10, |arrival, random| arrival.expected = NUMBER_LIMIT + 1 + (random.word() >> 2 >> random.below(62))),
     (4, |arrival, random| {
         let version = sample::unknown_version(random);
-        arrival.record = sample::record(random, version);
+        arrival.record[..LEVEL_AT].copy_from_slice(&version.to_be_bytes());
     }),
 ];
 
-/// From 1 to the last 3: what header reading judges too. Each field is missing before it is wrong.
-pub const HEADER_FAULTS: [Fault<Arrival>; 21] = [
-    // the datagram's size, then the form and the fixed bit
+/// The datagram's size, then the form and the fixed bit, and then a version that isn't whole.
+const START_FAULTS: [Fault<Arrival>; 5] = [
     (1, |arrival, _| arrival.resized = Some(0)),
     (1, |arrival, random| arrival.resized = Some(random.between(1_501..=1_520))),
     (2, |arrival, _| arrival.draft.first &= !FORM_BIT),
     (2, |arrival, _| arrival.draft.first &= !FIXED_BIT),
-    // the version, and then the type
     (3, |arrival, random| arrival.cut = Some(random.pick::<Cut>(&[|_| 1, |_| 2, |_| 3, |_| 4]))),
-    (4, |arrival, random| arrival.draft.version = sample::unknown_version(random)),
-    (6, |arrival, random| arrival.draft.first ^= random.pick(&[0x10, 0x20, 0x30])),
-    // the destination ID's length, and its bytes: none of them, or all but one
+];
+
+/// A version that is known and not the keys', which is refused where an unknown one is.
+const VERSION_OF_OTHERS: Fault<Arrival> = (4, |arrival, _| arrival.draft.kind.version ^= VERSIONS[0] ^ VERSIONS[1]);
+
+const UNKNOWN_VERSION: Fault<Arrival> =
+    (4, |arrival, random| arrival.draft.kind.version = sample::unknown_version(random));
+
+/// Keys of another level than the packet shows, or of none.
+const LEVEL_OF_OTHERS: Fault<Arrival> = (6, |arrival, random| {
+    let shown = (arrival.draft.first & TYPE_BITS) >> 4;
+    let level = arrival.draft.kind.known_version().level(shown).ok();
+    arrival.record[LEVEL_AT] = sample::level_but(random, level.as_slice());
+});
+
+/// A type that is another level's, or a Retry's. The tag is right for it.
+const OTHER_TYPE: Fault<Arrival> = (6, |arrival, random| arrival.draft.first ^= random.pick(&[0x10, 0x20, 0x30]));
+
+/// The one type that header reading refuses.
+const RETRY_TYPE: Fault<Arrival> = (6, |arrival, _| {
+    let retry = arrival.draft.kind.known_version().retry_type;
+    arrival.draft.show_type(retry);
+});
+
+/// Each length is missing before it is wrong, and of an ID's bytes none stand there, or all but one.
+const ID_FAULTS: [Fault<Arrival>; 7] = [
     (3, |arrival, _| arrival.cut = Some(|fields| fields.destination_length)),
     (5, |arrival, random| arrival.draft.destination = long_id(random)),
     (3, |arrival, _| arrival.cut = Some(|fields| fields.destination)),
     (3, |arrival, _| arrival.cut = Some(|fields| fields.source_length - 1)),
-    // the source ID's
     (3, |arrival, _| arrival.cut = Some(|fields| fields.source_length)),
     (5, |arrival, random| arrival.draft.source = long_id(random)),
     (3, |arrival, _| arrival.cut = Some(|fields| fields.token_length - 1)),
-    // the token's length without its last byte, a token that cannot be there, and one without its last byte
+];
+
+/// The token's length without its last byte, a token that cannot be there, and one without its last byte.
+const TOKEN_FAULTS: [Fault<Arrival>; 3] = [
     (3, |arrival, _| arrival.cut = Some(|fields| fields.token - 1)),
     (3, |arrival, random| {
-        let claim = random.pick(&[1_500, 16_384, 1 << 31, (1 << 32) + arrival.draft.token_claimed, (1 << 62) - 1]);
-        arrival.draft.claim_token(random, claim);
+        let token = arrival.draft.token.as_mut().expect("a level with a token");
+        let claim = random.pick(&[1_500, 16_384, 1 << 31, (1 << 32) + token.claimed, (1 << 62) - 1]);
+        token.claim(random, claim);
     }),
     (3, |arrival, _| arrival.cut = Some(|fields| fields.length - 1)),
-    // Length without its last byte, too small, and past the datagram's end
+];
+
+/// Length without its last byte, too small, and past the datagram's end.
+const LENGTH_FAULTS: [Fault<Arrival>; 4] = [
     (3, |arrival, _| arrival.cut = Some(|fields| fields.number - 1)),
     (7, |arrival, random| {
         let claim = random.below(20);
@@ -140,11 +168,19 @@ fn long_id(random: &mut Random) -> Id {
     Id { claimed, bytes: random.bytes(length) }
 }
 
-/// A version that is known and not the keys', which is refused where an unknown one is.
-const VERSION_OF_OTHERS: Fault<Arrival> = (4, |arrival, _| arrival.draft.version ^= VERSIONS[0] ^ VERSIONS[1]);
+/// The faults behind the type, in a packet of a level.
+fn field_faults(level: Level) -> Vec<Fault<Arrival>> {
+    let token_faults = if level.has_token() { &TOKEN_FAULTS[..] } else { &[] };
+    [&ID_FAULTS[..], token_faults, &LENGTH_FAULTS].concat()
+}
 
-/// Every fault of opening, in its order.
-pub fn opening_faults() -> Vec<Fault<Arrival>> {
-    let (to_version, from_version) = HEADER_FAULTS.split_at(5);
-    [&CALLER_FAULTS[..], to_version, &[VERSION_OF_OTHERS], from_version, &PROTECTION_FAULTS].concat()
+/// Every fault of header reading in a packet of a level, in its order.
+pub fn header_faults(level: Level) -> Vec<Fault<Arrival>> {
+    [&START_FAULTS[..], &[UNKNOWN_VERSION, RETRY_TYPE], &field_faults(level)].concat()
+}
+
+/// Every fault of opening a packet of a level, in its order.
+pub fn opening_faults(level: Level) -> Vec<Fault<Arrival>> {
+    let judged_by_keys = [VERSION_OF_OTHERS, UNKNOWN_VERSION, LEVEL_OF_OTHERS, OTHER_TYPE];
+    [&CALLER_FAULTS[..], &START_FAULTS, &judged_by_keys, &field_faults(level), &PROTECTION_FAULTS].concat()
 }

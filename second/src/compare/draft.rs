@@ -1,13 +1,12 @@
-//! Initial packets whose every field may be wrong, and which are encrypted and masked by the rules all the same.
+//! Packets of every level whose every field may be wrong, and which are encrypted and masked by the rules all the same.
 
-use super::sample;
+use super::sample::{self, Kind};
 use crate::random::Random;
-use second::header::{FIXED_BIT, FORM_BIT};
+use second::header::{FIXED_BIT, FORM_BIT, TYPE_BITS};
 use second::integer::{self, FORMS};
 use second::keys::Keys;
 use second::numbers::NUMBER_LIMIT;
 use second::seal::protect;
-use second::version::version;
 
 /// A connection ID and the length that is claimed for it.
 #[derive(Clone)]
@@ -22,17 +21,53 @@ impl Id {
     }
 }
 
+/// A token, the length that is claimed for it, and how many bytes that length takes.
+#[derive(Clone)]
+pub struct Token {
+    pub bytes: Vec<u8>,
+    pub claimed: u64,
+    pub form: usize,
+}
+
+impl Token {
+    /// A token of so many bytes, whose length stands in any form.
+    pub fn new(random: &mut Random, length: usize) -> Token {
+        let claimed = length as u64;
+        Token { bytes: random.bytes(length), claimed, form: any_form(random, claimed) }
+    }
+
+    /// Claims a length in a form that holds it.
+    pub fn claim(&mut self, random: &mut Random, length: u64) {
+        self.claimed = length;
+        self.form = any_form(random, length);
+    }
+
+    /// Takes the field away where there is one, and puts one where there is none.
+    pub fn misplace(field: &mut Option<Token>, random: &mut Random) {
+        *field = match field {
+            Some(_) => None,
+            None => {
+                let length = random.pick(&[0, 0, 1, 19, 20, 25, 64]);
+                Some(Token::new(random, length))
+            }
+        };
+    }
+
+    /// The field: the length and the bytes.
+    fn field(&self) -> Vec<u8> {
+        [integer::write_in(self.form, self.claimed), self.bytes.clone()].concat()
+    }
+}
+
 #[derive(Clone)]
 pub struct Draft {
-    /// the first byte but for the number's length
+    /// the first byte but for the number's length; its type is the level's where nothing is wrong
     pub first: u8,
-    pub version: u32,
+    pub kind: Kind,
     pub destination: Id,
     pub source: Id,
-    pub token: Vec<u8>,
-    /// the token length that is claimed, and how many bytes it takes
-    pub token_claimed: u64,
-    pub token_form: usize,
+    /// the token field, which an Initial has and other packets haven't where nothing is wrong
+    pub token: Option<Token>,
     /// the Length that is claimed where it isn't the right one, and how many bytes it takes
     pub length_claimed: Option<u64>,
     pub length_form: usize,
@@ -42,7 +77,7 @@ pub struct Draft {
     pub payload: Vec<u8>,
 }
 
-/// Where a packet's fields start.
+/// Where a packet's fields start. Without a token field, that field's places are where Length stands.
 pub struct Fields {
     pub destination_length: usize,
     pub destination: usize,
@@ -70,27 +105,28 @@ pub fn expected_for(random: &mut Random, number: u64, number_length: usize) -> u
 }
 
 impl Draft {
-    /// A packet with nothing wrong, in any forms, with a token and a payload of the sizes named. A payload of three
-    /// bytes or more goes with every number's length.
-    pub fn valid(random: &mut Random, version_number: u32, token: usize, payload: usize) -> Draft {
-        let version = version(version_number).expect("a known version");
-        let token = random.bytes(token);
+    /// A packet with nothing wrong, in any forms, with a payload of the size named, and where its level has a token also
+    /// with that. A payload of three bytes or more goes with every number's length.
+    pub fn valid(random: &mut Random, kind: Kind, token: usize, payload: usize) -> Draft {
         let number_length = random.between(1..=4);
         let length = (number_length + payload + 16) as u64;
         Draft {
-            first: FORM_BIT | FIXED_BIT | version.initial_type << 4,
-            version: version_number,
+            first: FORM_BIT | FIXED_BIT | kind.level.packet_type(kind.known_version()) << 4,
+            kind,
             destination: Id::new(sample::id(random)),
             source: Id::new(sample::id(random)),
-            token_claimed: token.len() as u64,
-            token_form: any_form(random, token.len() as u64),
-            token,
+            token: kind.level.has_token().then(|| Token::new(random, token)),
             length_claimed: None,
             length_form: any_form(random, length),
             number: sample::number(random) % NUMBER_LIMIT,
             number_length,
             payload: random.bytes(payload),
         }
+    }
+
+    /// Shows a type, whatever the level is.
+    pub fn show_type(&mut self, packet_type: u8) {
+        self.first = self.first & !TYPE_BITS | packet_type << 4;
     }
 
     /// Number, payload and tag.
@@ -104,20 +140,15 @@ impl Draft {
         self.length_form = any_form(random, length);
     }
 
-    /// Claims a token length in a form that holds it.
-    pub fn claim_token(&mut self, random: &mut Random, length: u64) {
-        self.token_claimed = length;
-        self.token_form = any_form(random, length);
-    }
-
     pub fn fields(&self) -> Fields {
         let destination_length = 1 + 4;
         let destination = destination_length + 1;
         let source_length = destination + self.destination.bytes.len();
         let source = source_length + 1;
         let token_length = source + self.source.bytes.len();
-        let token = token_length + self.token_form;
-        let length = token + self.token.len();
+        let (form, token_bytes) = self.token.as_ref().map_or((0, 0), |token| (token.form, token.bytes.len()));
+        let token = token_length + form;
+        let length = token + token_bytes;
         let number = length + self.length_form;
         Fields { destination_length, destination, source_length, source, token_length, token, length, number }
     }
@@ -125,18 +156,17 @@ impl Draft {
     /// The header before the number.
     fn header(&self) -> Vec<u8> {
         let mut header = vec![self.first | (self.number_length - 1) as u8];
-        header.extend(self.version.to_be_bytes());
+        header.extend(self.kind.version.to_be_bytes());
         for id in [&self.destination, &self.source] {
             header.push(id.claimed);
             header.extend(&id.bytes);
         }
-        header.extend(integer::write_in(self.token_form, self.token_claimed));
-        header.extend(&self.token);
+        header.extend(self.token.iter().flat_map(Token::field));
         header.extend(integer::write_in(self.length_form, self.length_claimed.unwrap_or(self.length())));
         header
     }
 
-    /// The packet under some keys, whose version is not asked.
+    /// The packet under some keys, whose version and level are not asked.
     pub fn packet(&self, keys: &Keys) -> Vec<u8> {
         protect(keys, self.header(), self.number, self.number_length, &self.payload)
     }

@@ -7,7 +7,7 @@ use super::tally::Tally;
 use crate::effect::Effect;
 use crate::library;
 use crate::random::Random;
-use second::keys::{self, Side};
+use second::keys::{self, Record, Side};
 use std::borrow::Cow;
 use std::fmt::{self, Display, Formatter};
 
@@ -27,7 +27,7 @@ struct InitialKeys {
     destination: Bytes,
     server: u32,
     /// the lent bytes before the call
-    keys: [u8; 48],
+    keys: Record,
 }
 
 impl Display for InitialKeys {
@@ -54,8 +54,7 @@ impl Call<0> for InitialKeys {
 
 impl InitialKeys {
     fn new(random: &mut Random, version: u32, destination: impl Into<Bytes>, server: u32) -> InitialKeys {
-        let keys = random.bytes(48).try_into().expect("48 bytes");
-        InitialKeys { version, destination: destination.into(), server, keys }
+        InitialKeys { version, destination: destination.into(), server, keys: sample::any_record(random) }
     }
 }
 

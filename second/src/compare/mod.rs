@@ -8,6 +8,7 @@ mod draft;
 mod entry;
 mod faults;
 mod initial_keys;
+mod install_keys;
 mod open;
 mod opening;
 mod read_header;
@@ -24,13 +25,15 @@ pub use entry::Entry;
 pub use tally::Tally;
 
 /// Every entry point, in the order of the header file.
-pub const ENTRIES: [&Entry; 10] = [
+pub const ENTRIES: [&Entry; 12] = [
     &read_integer::ENTRY,
     &shorten::SMALLEST_LENGTH,
     &shorten::SHORTEN,
     &recover::ENTRY,
     &initial_keys::ENTRY,
-    &seal::ENTRY,
+    &install_keys::ENTRY,
+    &seal::SEAL,
+    &seal::SEAL_LONG,
     &open::ENTRY,
     &read_header::ENTRY,
     &write_retry::ENTRY,

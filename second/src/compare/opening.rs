@@ -4,12 +4,12 @@ use super::call::{Call, Hex};
 use super::draft::Draft;
 use crate::effect::Effect;
 use crate::library;
-use second::keys::Keys;
+use second::keys::{Keys, Record};
 use second::open::{open, Opened};
 use std::fmt::{self, Display, Formatter};
 
 pub struct Open<'a> {
-    pub keys: &'a [u8; 48],
+    pub keys: &'a Record,
     pub expected: u64,
     pub datagram: &'a [u8],
     /// the lent bytes before the call

@@ -1,17 +1,19 @@
-//! `dw_read_header`: RFC 9000 section 17.2.2.
+//! `dw_read_header`: RFC 9000 sections 17.2.2 to 17.2.4.
 
-use super::arrival::{Arrival, HEADER_FAULTS};
+use super::arrival::{header_faults, Arrival};
 use super::call::{Call, Hex};
 use super::damage::{self, Sealed};
-use super::draft::Draft;
+use super::draft::{Draft, Token};
 use super::entry::Entry;
 use super::faults::{each_set, small_sets};
-use super::sample::{self, VERSIONS};
+use super::sample::{self, Kind};
 use super::tally::Tally;
 use crate::effect::Effect;
 use crate::library;
 use crate::random::Random;
 use second::header::{read_header, Header};
+use second::level::LEVELS;
+use std::array;
 use std::fmt::{self, Display, Formatter};
 
 pub const ENTRY: Entry = Entry {
@@ -20,7 +22,9 @@ pub const ENTRY: Entry = Entry {
         ("every truncation and every bit of sealed packets", damaged),
         ("every first byte, and versions that are one bit off", starts),
         ("token lengths and Lengths in every form, right, a little off, far off or anything", claims),
-        ("every fault, every two and larger sets", fault_sets),
+        ("token fields that the level hasn't, or none where it has one", token_fields),
+        ("packets of any levels one behind the other", coalesced),
+        ("every fault, every two and larger sets, at every level", fault_sets),
         ("random bytes behind a good start", rubbish),
         ("datagrams around 1,500 bytes, of a million and more", large),
     ],
@@ -35,28 +39,26 @@ impl Display for ReadHeader<'_> {
     }
 }
 
-impl Call<9> for ReadHeader<'_> {
-    fn ours(&self) -> Effect<9> {
+impl Call<10> for ReadHeader<'_> {
+    fn ours(&self) -> Effect<10> {
         Effect::reporting(read_header(self.0).map(|header: Header| header.words()))
     }
 
-    fn theirs(&self) -> Effect<9> {
+    fn theirs(&self) -> Effect<10> {
         library::read_header(self.0)
     }
 }
 
 /// The report that a packet's making tells.
-fn report(draft: &Draft) -> [u64; 9] {
+fn report(draft: &Draft) -> [u64; 10] {
     let fields = draft.fields();
-    let places = [
-        (fields.destination, draft.destination.bytes.len()),
-        (fields.source, draft.source.bytes.len()),
-        (fields.token, draft.token.len()),
-    ];
-    let mut words = vec![u64::from(draft.version)];
+    let token = draft.token.as_ref().map_or((0, 0), |token| (fields.token, token.bytes.len()));
+    let places =
+        [(fields.destination, draft.destination.bytes.len()), (fields.source, draft.source.bytes.len()), token];
+    let mut words = vec![u64::from(draft.kind.version)];
     words.extend(places.iter().flat_map(|(at, length)| [*at as u64, *length as u64]));
-    words.extend([draft.length(), fields.number as u64]);
-    words.try_into().expect("nine words")
+    words.extend([draft.length(), fields.number as u64, u64::from(draft.kind.level.number())]);
+    words.try_into().expect("ten words")
 }
 
 fn damaged(tally: &mut Tally, random: &mut Random) {
@@ -68,70 +70,102 @@ fn damaged(tally: &mut Tally, random: &mut Random) {
     }
 }
 
-/// A packet of a version, with nothing wrong.
-fn good_packet(random: &mut Random, version: u32) -> Vec<u8> {
-    let draft = Draft::valid(random, version, 7, 20);
-    Sealed::new(random, version, draft).packet
+/// A packet with nothing wrong.
+fn good(random: &mut Random, kind: Kind) -> Sealed {
+    let draft = Draft::valid(random, kind, 7, 20);
+    Sealed::new(random, draft)
 }
 
 fn starts(tally: &mut Tally, random: &mut Random) {
-    for version in VERSIONS {
-        let mut packet = good_packet(random, version);
+    for kind in sample::kinds() {
+        let mut packet = good(random, kind).packet;
         for first in 0..=255 {
             packet[0] = first;
             for length in [1, 3, 5, 6, packet.len()] {
                 tally.compare(&ReadHeader(&packet[..length]));
             }
             for bit in 0..32 {
-                packet[1..5].copy_from_slice(&(version ^ 1 << bit).to_be_bytes());
+                packet[1..5].copy_from_slice(&(kind.version ^ 1 << bit).to_be_bytes());
                 tally.compare(&ReadHeader(&packet));
             }
-            packet[1..5].copy_from_slice(&version.to_be_bytes());
+            packet[1..5].copy_from_slice(&kind.version.to_be_bytes());
         }
     }
 }
 
 fn claims(tally: &mut Tally, random: &mut Random) {
     for _ in 0..30_000 {
-        let version = sample::known_version(random);
+        let kind = sample::kind(random);
         let (token, payload) = (random.pick(&[0, 1, 20, 63, 64, 100]), random.between(3..=30));
-        let mut draft = Draft::valid(random, version, token, payload);
-        if random.one_in(3) {
-            let claim = sample::claim(random, draft.token_claimed);
-            draft.claim_token(random, claim);
+        let mut draft = Draft::valid(random, kind, token, payload);
+        if let Some(token) = draft.token.as_mut().filter(|_| random.one_in(3)) {
+            let claim = sample::claim(random, token.claimed);
+            token.claim(random, claim);
         }
         if random.one_in(2) {
             let claim = sample::claim(random, draft.length());
             draft.claim_length(random, claim);
         }
-        let mut datagram = Sealed::new(random, version, draft).packet;
+        let mut datagram = Sealed::new(random, draft).packet;
         let behind = random.pick(&[0, 0, 1, 5, 30]);
         datagram.extend(random.bytes(behind));
         tally.compare(&ReadHeader(&datagram));
     }
 }
 
-fn fault_sets(tally: &mut Tally, random: &mut Random) {
-    let sets = small_sets(HEADER_FAULTS.len(), 32, random);
-    each_set(&HEADER_FAULTS, sets, random, Arrival::valid, |arrival, known, random| {
-        tally.compare_knowing(&ReadHeader(&arrival.datagram(random)), known);
-    });
+fn token_fields(tally: &mut Tally, random: &mut Random) {
+    for _ in 0..6_000 {
+        let kind = sample::kind(random);
+        let mut draft = good(random, kind).draft;
+        Token::misplace(&mut draft.token, random);
+        tally.compare(&ReadHeader(&Sealed::new(random, draft).packet));
+    }
 }
 
-/// Bytes that start as an Initial does, so that something is read before they are refused.
+/// RFC 9000 section 12.2: where a packet ends, which its header tells, the next begins.
+fn coalesced(tally: &mut Tally, random: &mut Random) {
+    for _ in 0..1_500 {
+        let kinds: [Kind; 4] = array::from_fn(|_| sample::kind(random));
+        let packets = kinds.map(|kind| good(random, kind));
+        let datagram = packets.each_ref().map(|sealed| &sealed.packet[..]).concat();
+        let mut at = 0;
+        for sealed in &packets {
+            tally.compare_yielding(&ReadHeader(&datagram[at..]), report(&sealed.draft));
+            at += sealed.packet.len();
+        }
+    }
+}
+
+fn fault_sets(tally: &mut Tally, random: &mut Random) {
+    for level in LEVELS {
+        let faults = header_faults(level);
+        let sets = small_sets(faults.len(), 12, random);
+        each_set(
+            &faults,
+            sets,
+            random,
+            |random| Arrival::valid(random, level),
+            |arrival, known, random| {
+                tally.compare_knowing(&ReadHeader(&arrival.datagram(random)), known);
+            },
+        );
+    }
+}
+
+/// Bytes that start as a packet does, so that something is read before they are refused.
 fn rubbish(tally: &mut Tally, random: &mut Random) {
     for _ in 0..60_000 {
-        let version = sample::known_version(random);
-        let whole = good_packet(random, version);
-        let good = random.between(0..=40).min(whole.len());
+        let kind = sample::kind(random);
+        let whole = good(random, kind).packet;
+        let start = random.between(0..=40).min(whole.len());
         let behind = random.between(0..=60);
-        tally.compare(&ReadHeader(&[&whole[..good], &random.bytes(behind)].concat()));
+        tally.compare(&ReadHeader(&[&whole[..start], &random.bytes(behind)].concat()));
     }
 }
 
 fn large(tally: &mut Tally, random: &mut Random) {
-    for version in VERSIONS {
-        let packet = good_packet(random, version);
+    for kind in sample::kinds() {
+        let packet = good(random, kind).packet;
         for size in 1_490..=1_510 {
             let behind = random.bytes(size - packet.len());
             tally.compare_knowing(&ReadHeader(&[&packet[..], &behind].concat()), u32::from(size > 1_500));

@@ -1,8 +1,10 @@
-//! What inputs are drawn from: numbers, versions, connection IDs and keys, with a leaning towards the edges.
+//! What inputs are drawn from: numbers, versions, levels, connection IDs and keys, with a leaning towards the edges.
 
 use crate::random::Random;
+use second::keys::{Record, LEVEL_AT};
+use second::level::{Level, LEVELS};
 use second::numbers::NUMBER_LIMIT;
-use second::version::{VERSION_1, VERSION_2_DRAFT};
+use second::version::{version, Version, VERSION_1, VERSION_2_DRAFT};
 use std::alloc::{alloc_zeroed, Layout};
 use std::borrow::Cow;
 use std::iter;
@@ -13,6 +15,29 @@ use std::sync::OnceLock;
 pub type Bytes = Cow<'static, [u8]>;
 
 pub const VERSIONS: [u32; 2] = [VERSION_1.number, VERSION_2_DRAFT.number];
+
+/// A packet's version and level. The version may be an unknown one.
+#[derive(Clone, Copy)]
+pub struct Kind {
+    pub version: u32,
+    pub level: Level,
+}
+
+impl Kind {
+    /// The version, of a kind with a known one.
+    pub fn known_version(self) -> &'static Version {
+        version(self.version).expect("a known version")
+    }
+}
+
+/// Every level in both versions.
+pub fn kinds() -> impl Iterator<Item = Kind> {
+    VERSIONS.into_iter().flat_map(|version| LEVELS.map(|level| Kind { version, level }))
+}
+
+pub fn kind(random: &mut Random) -> Kind {
+    Kind { version: known_version(random), level: random.pick(&LEVELS) }
+}
 
 /// What C callers may pass for "yes".
 pub const FLAGS: [u32; 5] = [1, 2, 0x100, 0x8000_0000, u32::MAX];
@@ -93,11 +118,29 @@ pub fn unknown_version(random: &mut Random) -> u32 {
     }
 }
 
-/// A key record of a version. Any bytes are a key.
-pub fn record(random: &mut Random, version: u32) -> [u8; 48] {
-    let mut record: [u8; 48] = random.bytes(48).try_into().expect("48 bytes");
-    record[..4].copy_from_slice(&version.to_be_bytes());
+/// A key record of a version and a level. Any bytes are a key.
+pub fn record(random: &mut Random, kind: Kind) -> Record {
+    let mut record = any_record(random);
+    record[..LEVEL_AT].copy_from_slice(&kind.version.to_be_bytes());
+    record[LEVEL_AT] = kind.level.number();
     record
+}
+
+/// A key record of any bytes, as a forger might hand it over.
+pub fn any_record(random: &mut Random) -> Record {
+    random.bytes(49).try_into().expect("49 bytes")
+}
+
+/// A level byte that is none of some levels': another level's, or one that names none.
+pub fn level_but(random: &mut Random, levels: &[Level]) -> u8 {
+    let any = random.word() as u8;
+    let level = random.pick(&[0, 1, 2, 3, 4, 0x80, 0x81, 0x82, 0xff, any]);
+    let taken = levels.iter().any(|other| other.number() == level);
+    if taken {
+        3
+    } else {
+        level
+    }
 }
 
 /// A connection ID of a length that is allowed.
