@@ -9,7 +9,10 @@ use core::ptr;
 use core::sync::atomic::{compiler_fence, Ordering};
 
 /// A key record's bytes.
-pub type Record = [u8; 48];
+pub type Record = [u8; 49];
+
+/// A secret's bytes.
+pub type Secret = [u8; 32];
 
 extern "C" {
     fn dw_read_integer(bytes: *const u8, len: usize, report: &mut [u64; 2]) -> u32;
@@ -23,6 +26,7 @@ extern "C" {
         server: u32,
         keys: &mut Record,
     ) -> u32;
+    fn dw_install_keys(version: u32, level: u32, server: u32, secret: &Secret, keys: &mut Record) -> u32;
     fn dw_seal(
         keys: &Record,
         number: u64,
@@ -41,6 +45,22 @@ extern "C" {
         out_len: usize,
         report: &mut [u64; 1],
     ) -> u32;
+    fn dw_seal_long(
+        keys: &Record,
+        number: u64,
+        any_acknowledged: u32,
+        acknowledged: u64,
+        length: usize,
+        destination: *const u8,
+        destination_len: usize,
+        source: *const u8,
+        source_len: usize,
+        payload: *const u8,
+        payload_len: usize,
+        out: *mut u8,
+        out_len: usize,
+        report: &mut [u64; 1],
+    ) -> u32;
     fn dw_open(
         keys: &Record,
         expected: &mut u64,
@@ -50,7 +70,7 @@ extern "C" {
         out_len: usize,
         report: &mut [u64; 5],
     ) -> u32;
-    fn dw_read_header(datagram: *const u8, datagram_len: usize, report: &mut [u64; 9]) -> u32;
+    fn dw_read_header(datagram: *const u8, datagram_len: usize, report: &mut [u64; 10]) -> u32;
     fn dw_write_retry(
         version: u32,
         original: *const u8,
@@ -119,8 +139,14 @@ pub fn recover(expected: u64, truncated: u64, length: usize) -> Result<u64, Refu
 }
 
 pub fn initial_keys(version: u32, destination: &[u8], server: bool, keys: &mut Record) -> Result<(), Refusal> {
-    // SAFETY: `destination` is a slice, given with its own length; the record has the 48 bytes that are written.
+    // SAFETY: `destination` is a slice, given with its own length; the record has the 49 bytes that are written.
     let number = unsafe { dw_initial_keys(version, destination.as_ptr(), destination.len(), u32::from(server), keys) };
+    answer(number, ())
+}
+
+pub fn install_keys(version: u32, level: u8, server: bool, secret: &Secret, keys: &mut Record) -> Result<(), Refusal> {
+    // SAFETY: the secret has the 32 bytes that are read, and the record the 49 that are written.
+    let number = unsafe { dw_install_keys(version, u32::from(level), u32::from(server), secret, keys) };
     answer(number, ())
 }
 
@@ -161,6 +187,41 @@ pub fn seal(
     answer(number, report[0])
 }
 
+/// Destination, source and payload are the packet's parts.
+pub fn seal_long(
+    keys: &Record,
+    number: u64,
+    acknowledged: Option<u64>,
+    length: usize,
+    parts: [&[u8]; 3],
+    out: &mut [u8],
+) -> Result<u64, Refusal> {
+    let (any_acknowledged, acknowledged) = flagged(acknowledged);
+    let [destination, source, payload] = parts;
+    let mut report = [0; 1];
+    // SAFETY: every pointer is a slice's, given with that slice's own length, and nothing but `out` and the report's one
+    // word is written; both are borrowed for writing here alone.
+    let number = unsafe {
+        dw_seal_long(
+            keys,
+            number,
+            any_acknowledged,
+            acknowledged,
+            length,
+            destination.as_ptr(),
+            destination.len(),
+            source.as_ptr(),
+            source.len(),
+            payload.as_ptr(),
+            payload.len(),
+            out.as_mut_ptr(),
+            out.len(),
+            &mut report,
+        )
+    };
+    answer(number, report[0])
+}
+
 pub fn open(keys: &Record, expected: &mut u64, datagram: &[u8], out: &mut [u8]) -> Result<[u64; 5], Refusal> {
     let mut report = [0; 5];
     // SAFETY: every pointer is a slice's, given with that slice's own length, and nothing but `expected`, `out` and the
@@ -170,9 +231,9 @@ pub fn open(keys: &Record, expected: &mut u64, datagram: &[u8], out: &mut [u8]) 
     answer(number, report)
 }
 
-pub fn read_header(datagram: &[u8]) -> Result<[u64; 9], Refusal> {
-    let mut report = [0; 9];
-    // SAFETY: `datagram` is a slice, given with its own length; the report has the nine words that are written.
+pub fn read_header(datagram: &[u8]) -> Result<[u64; 10], Refusal> {
+    let mut report = [0; 10];
+    // SAFETY: `datagram` is a slice, given with its own length; the report has the ten words that are written.
     let number = unsafe { dw_read_header(datagram.as_ptr(), datagram.len(), &mut report) };
     answer(number, report)
 }

@@ -1,6 +1,7 @@
-//! Key records: RFC 9001 section 5.2.
+//! Key records: RFC 9001 sections 5.1 and 5.2.
 
-use crate::ffi::{self, Record};
+use crate::ffi::{self, Record, Secret};
+use crate::level::Level;
 use crate::refusal::Refusal;
 use crate::version::Version;
 use core::fmt::{self, Debug, Formatter};
@@ -14,17 +15,18 @@ pub enum Side {
     Server,
 }
 
-/// One sender's keys, with the version that they are for. What one side seals, the other opens with the same record.
+/// One sender's keys of a level, with the version and the level that they are for. What one side seals, the other opens
+/// with the same record.
 ///
-/// They hold secrets: `Debug` tells the version alone, and the record is wiped when it is dropped. What isn't wiped: what
-/// a move of the record leaves where it was, what is copied from [`Keys::as_bytes`], and what the library leaves on the
-/// stack below its calls. The keys of Initial packets are no secret to anybody who has seen the client's first.
+/// They hold secrets: `Debug` tells version and level alone, and the record is wiped when it is dropped. What isn't wiped:
+/// what a move of the record leaves where it was, what is copied from [`Keys::as_bytes`], and what the library leaves on
+/// the stack below its calls. The keys of Initial packets are no secret to anybody who has seen the client's first.
 ///
 /// ```
 /// use driftwicket::{Keys, Side, Version};
 ///
 /// let keys = Keys::initial(Version::ONE, b"an ID", Side::Client)?;
-/// assert_eq!(format!("{keys:?}"), "Keys { version: Version(0x00000001), .. }");
+/// assert_eq!(format!("{keys:?}"), "Keys { version: Version(0x00000001), level: Some(Initial), .. }");
 /// # Ok::<(), driftwicket::Refusal>(())
 /// ```
 #[derive(Clone)]
@@ -32,7 +34,10 @@ pub struct Keys(Record);
 
 impl Keys {
     /// How many bytes a record has.
-    pub const LENGTH: usize = 48;
+    pub const LENGTH: usize = 49;
+
+    /// How many bytes a secret of TLS has, in the suites whose hash is SHA-256.
+    pub const SECRET: usize = 32;
 
     /// Makes a sender's Initial keys from the Destination Connection ID of the client's Initial: its first, or after a
     /// Retry the one that the Retry set.
@@ -48,7 +53,7 @@ impl Keys {
     /// let id = 0x8394c8f03e515708_u64.to_be_bytes();
     /// let keys = Keys::initial(Version::ONE, &id, Side::Client)?;
     /// let key = 0x1f369613dd76d5467730efcbe3b1a22d_u128.to_be_bytes();
-    /// assert_eq!(keys.as_bytes()[4..20], key);
+    /// assert_eq!(keys.as_bytes()[5..21], key);
     ///
     /// let too_long = [0; 21];
     /// assert_eq!(Keys::initial(Version::ONE, &too_long, Side::Client).unwrap_err(), Refusal::LongId);
@@ -60,8 +65,35 @@ impl Keys {
         Ok(keys)
     }
 
-    /// Takes a record from its bytes: the version (4, the most significant byte first), key (16), iv (12) and hp (16).
-    /// Any bytes are a record; one of an unknown version is refused where it is used.
+    /// Makes a sender's keys of a level from the secret that TLS hands over for that level and side, in a suite with
+    /// AES-128-GCM and SHA-256.
+    ///
+    /// # Errors
+    /// Refuses 4, and then 6 for [`Level::Initial`], whose keys [`Keys::initial`] makes, and for [`Level::ZeroRtt`] where
+    /// the server would send.
+    ///
+    /// # Example
+    /// ```
+    /// use driftwicket::{Keys, Level, Refusal, Side, Version};
+    ///
+    /// let secret = [7; Keys::SECRET];
+    /// let keys = Keys::install(Version::ONE, Level::Handshake, Side::Server, &secret)?;
+    /// assert_eq!(keys.level(), Some(Level::Handshake));
+    ///
+    /// // early data goes from the client to the server
+    /// assert!(Keys::install(Version::ONE, Level::ZeroRtt, Side::Client, &secret).is_ok());
+    /// let refused = Keys::install(Version::ONE, Level::ZeroRtt, Side::Server, &secret);
+    /// assert_eq!(refused.unwrap_err(), Refusal::Type);
+    /// # Ok::<(), Refusal>(())
+    /// ```
+    pub fn install(version: Version, level: Level, side: Side, secret: &Secret) -> Result<Keys, Refusal> {
+        let mut keys = Keys([0; Keys::LENGTH]);
+        ffi::install_keys(version.0, level.number(), side == Side::Server, secret, &mut keys.0)?;
+        Ok(keys)
+    }
+
+    /// Takes a record from its bytes: the version (4, the most significant byte first), level (1), key (16), iv (12) and
+    /// hp (16). Any bytes are a record; one of an unknown version or level is refused where it is used.
     ///
     /// ```
     /// use driftwicket::{open, Keys, Refusal};
@@ -103,11 +135,28 @@ impl Keys {
         let [first, second, third, fourth, ..] = self.0;
         Version(u32::from_be_bytes([first, second, third, fourth]))
     }
+
+    /// The level that these keys are for; none where [`Keys::from_bytes`] was given a byte that names none.
+    ///
+    /// ```
+    /// use driftwicket::{Keys, Level, Side, Version};
+    ///
+    /// let keys = Keys::install(Version::ONE, Level::ZeroRtt, Side::Client, &[7; Keys::SECRET])?;
+    /// assert_eq!(keys.level(), Some(Level::ZeroRtt));
+    /// assert_eq!(Keys::from_bytes([0xff; Keys::LENGTH]).level(), None);
+    /// # Ok::<(), driftwicket::Refusal>(())
+    /// ```
+    #[must_use]
+    pub fn level(&self) -> Option<Level> {
+        let [_, _, _, _, level, ..] = self.0;
+        Level::named(u64::from(level))
+    }
 }
 
 impl Debug for Keys {
     fn fmt(&self, formatter: &mut Formatter) -> fmt::Result {
-        formatter.debug_struct("Keys").field("version", &self.version()).finish_non_exhaustive()
+        let mut keys = formatter.debug_struct("Keys");
+        keys.field("version", &self.version()).field("level", &self.level()).finish_non_exhaustive()
     }
 }
 

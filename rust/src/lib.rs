@@ -1,5 +1,5 @@
-//! QUIC packet protection, proved: Initial keys, sealing, opening, packet numbers short and full, and Retry, for QUIC
-//! version 1 and the version 2 draft (0x709a50c4).
+//! QUIC packet protection, proved: keys, sealing and opening of Initial, 0-RTT and Handshake packets, packet numbers short
+//! and full, and Retry, for QUIC version 1 and the version 2 draft (0x709a50c4).
 //!
 //! This crate is a thin cover over `libdriftwicket.a`, whose every function is proved to do what RFC 9000, RFC 9001, the
 //! draft and the papers below them say, for every input. No call trusts its caller: what cannot be done is refused with
@@ -44,9 +44,9 @@
 //! ```
 //!
 //! # What it leaves to its caller
-//! The TLS handshake, the frames inside a payload, timers, and the rule that a client's Initial fills 1,200 bytes. The
-//! session judges a Retry whose source ID is the original one, and a server's Initial that carries a token. Secrecy
-//! against timing is not promised.
+//! The TLS handshake, from which the secrets for [`Keys::install`] come, the frames inside a payload, timers, and the rule
+//! that a client's Initial fills 1,200 bytes. The session judges a Retry whose source ID is the original one, and a
+//! server's Initial that carries a token. Secrecy against timing is not promised.
 //!
 //! # Where it builds
 //! It allocates nothing and needs no standard library. The feature `std`, which is on by itself, makes a [`Refusal`] an
@@ -63,6 +63,7 @@ extern crate std;
 mod ffi;
 mod header;
 mod keys;
+mod level;
 mod numbers;
 mod open;
 mod refusal;
@@ -73,10 +74,11 @@ mod version;
 
 pub use header::{read_header, Header};
 pub use keys::{Keys, Side};
+pub use level::Level;
 pub use numbers::{read_integer, recover, shorten, smallest_length, FullPn, Integer, TruncatedPn};
 pub use open::{open, Opened, Receiver};
 pub use refusal::{NoRefusal, Refusal};
-pub use seal::{seal, Initial};
+pub use seal::{seal, seal_long, Initial, Long};
 pub use version::Version;
 
 /// The most bytes that a datagram, or a packet to be written, may have.

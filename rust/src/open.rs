@@ -21,14 +21,15 @@ pub struct Opened<'o> {
     pub used: usize,
 }
 
-/// Opens the Initial packet at a datagram's start into `out`, which must have room for the packet less its tag, and
-/// raises `expected` to one above the number opened where it is below that. What stands behind the packet isn't looked at.
-/// A repeated packet opens again.
+/// Opens the packet at a datagram's start, of the keys' level, into `out`, which must have room for the packet less its
+/// tag, and raises `expected` to one above the number opened where it is below that. What stands behind the packet isn't
+/// looked at. A repeated packet opens again.
 ///
 /// # Errors
 /// Refuses 10 (expected) and 4 (the keys' version); then what [`read_header`] refuses, and at the version field 4 for
-/// another version than the keys'; then 8, 9, 10 (recovered) and 11, in this order. A refusal leaves `out` and
-/// `expected` as they were. A packet refused with 9, 10 or 11 is to be dropped, and nothing closed: see [`Refusal`].
+/// another version than the keys' and 6 for a type of another level; then 8, 9, 10 (recovered) and 11, in this order. A
+/// refusal leaves `out` and `expected` as they were. A packet refused with 9, 10 or 11 is to be dropped, and nothing
+/// closed: see [`Refusal`].
 ///
 /// # Example
 /// ```
@@ -71,8 +72,9 @@ pub fn open<'o>(keys: &Keys, expected: &mut u64, datagram: &[u8], out: &'o mut [
     Ok(Opened { number: FullPn(number), number_length, header, payload: &behind[..payload_length], used })
 }
 
-/// One sender's keys and the number expected next. Through loss, repeats, late arrival and rubbish, it opens every packet
-/// of that sender whose number lies in the window around what is expected.
+/// One sender's keys of a level and the number expected next at that level: Initial and Handshake packets are numbered
+/// apart (RFC 9000 section 12.3). Through loss, repeats, late arrival and rubbish, it opens every packet of that sender and
+/// level whose number lies in the window around what is expected.
 ///
 /// ```
 /// use driftwicket::{seal, FullPn, Initial, Keys, Receiver, Refusal, Side, Version, LIMIT};
@@ -164,7 +166,7 @@ impl Receiver {
         self.expected
     }
 
-    /// Opens the Initial packet at a datagram's start, as [`open`] does.
+    /// Opens the packet at a datagram's start, as [`open`] does.
     ///
     /// # Errors
     /// Those of [`open`].

@@ -1,5 +1,6 @@
 //! What the words of a report mean.
 
+use crate::level::Level;
 use crate::version::Version;
 
 /// A place or a length. None is above 1,500.
@@ -10,6 +11,11 @@ pub fn count(word: u64) -> usize {
 /// A version.
 pub fn version(word: u64) -> Version {
     Version(u32::try_from(word).expect("a version has 32 bits"))
+}
+
+/// A level.
+pub fn level(word: u64) -> Level {
+    Level::named(word).expect("a level of this crate's version")
 }
 
 /// Destination, source and token, by their places and lengths.

@@ -203,8 +203,8 @@ impl<'a, const WORDS: usize> Loan<'a, WORDS> {
 }
 
 // SAFETY, for every call below: each pointer comes from a loan, which outlives the call, and stands at as many bytes or
-// words as the call is told; keys are 49 bytes and a secret is 32; a loan's report has the words that the C interface names. An empty
-// slice's pointer is not null.
+// words as the call is told; keys are 49 bytes and a secret is 32; a loan's report has the words that the C interface
+// names. An empty slice's pointer is not null.
 
 pub fn read_integer(bytes: &[u8]) -> Effect<2> {
     let mut loan = Loan::new(&[], 0);

@@ -28,8 +28,8 @@ impl Opened {
     }
 }
 
-/// Opens the packet at the datagram's start, of the keys' level. The output then holds plain header and payload, and the expected number is
-/// above the one opened; a refusal leaves both as they were.
+/// Opens the packet at the datagram's start, of the keys' level. The output then holds plain header and payload, and the
+/// expected number is above the one opened; a refusal leaves both as they were.
 pub fn open(keys: &Keys, expected: &mut u64, datagram: &[u8], output: &mut [u8]) -> Result<Opened, Refusal> {
     ensure(*expected <= NUMBER_LIMIT, Refusal::NumberRange)?;
     version(keys.version)?;

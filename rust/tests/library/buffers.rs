@@ -1,8 +1,8 @@
 //! What a call writes and what it leaves: parts of the caller's datagram, buffers short, exact and longer, secrets.
 
-use crate::{client_keys, initial, sealed, ID, SENTINEL};
+use crate::{client_keys, initial, installed_keys, long, sealed, ID, SENTINEL};
 use driftwicket::retry::{self, Retry};
-use driftwicket::{open, read_header, seal, Keys, Refusal, Side, Version, TAG};
+use driftwicket::{open, read_header, seal, seal_long, Keys, Level, Refusal, Version, LIMIT, TAG};
 use std::mem::{self, MaybeUninit};
 use std::ops::Range;
 
@@ -64,6 +64,22 @@ fn sealing_into_short_exact_and_longer() {
 }
 
 #[test]
+fn sealing_without_a_token_into_short_exact_and_longer() {
+    let (keys, packet) = (installed_keys(Level::Handshake), long(9));
+    let datagram = seal_long(&keys, &packet, &mut [0; LIMIT]).unwrap().to_vec();
+    for room in [0, datagram.len() - 1] {
+        let mut out = vec![SENTINEL; room];
+        assert_eq!(seal_long(&keys, &packet, &mut out), Err(Refusal::Room));
+        assert_eq!(out, vec![SENTINEL; room]);
+    }
+    for more in [0, 1, 40] {
+        let mut out = vec![SENTINEL; datagram.len() + more];
+        assert_eq!(seal_long(&keys, &packet, &mut out).unwrap(), datagram);
+        assert_eq!(out[datagram.len()..], vec![SENTINEL; more]);
+    }
+}
+
+#[test]
 fn opening_into_short_exact_and_longer() {
     let packet = initial(9);
     let datagram = sealed(&packet);
@@ -100,9 +116,9 @@ fn bytes_behind_a_packet_are_not_used() {
 #[test]
 fn debug_tells_no_secret() {
     let record = std::array::from_fn(|place| if place < 4 { 0 } else { SENTINEL });
-    assert_eq!(format!("{:?}", Keys::from_bytes(record)), "Keys { version: Version(0x00000000), .. }");
-    let keys = Keys::initial(Version::DRAFT_2, &ID, Side::Server).unwrap();
-    assert_eq!(format!("{keys:#?}"), "Keys {\n    version: Version(0x709a50c4),\n    ..\n}");
+    assert_eq!(format!("{:?}", Keys::from_bytes(record)), "Keys { version: Version(0x00000000), level: None, .. }");
+    let keys = installed_keys(Level::ZeroRtt);
+    assert_eq!(format!("{keys:?}"), "Keys { version: Version(0x00000001), level: Some(ZeroRtt), .. }");
 }
 
 #[test]

@@ -1,14 +1,15 @@
-//! The library through this crate: the papers' packets, every refusal, what stays untouched, and a receiver's list; and that
-//! the repository's other texts show the same examples and words.
+//! The library through this crate: the papers' packets, every level, every refusal, what stays untouched, and a receiver's
+//! list; and that the repository's other texts show the same examples and words.
 
 mod buffers;
+mod levels;
 mod papers;
 mod readme;
 mod receiver;
 mod refusals;
 mod words;
 
-use driftwicket::{seal, FullPn, Initial, Keys, Side, Version, LIMIT};
+use driftwicket::{seal, FullPn, Initial, Keys, Level, Long, Side, Version, LIMIT};
 
 /// The Destination Connection ID of the papers' examples.
 const ID: [u8; 8] = [0x83, 0x94, 0xc8, 0xf0, 0x3e, 0x51, 0x57, 0x08];
@@ -38,6 +39,17 @@ fn initial(number: u64) -> Initial<'static> {
         token: b"a token",
         payload: b"a payload of some bytes",
     }
+}
+
+/// The client's keys of version 1 and another level than Initial.
+fn installed_keys(level: Level) -> Keys {
+    Keys::install(Version::ONE, level, Side::Client, &[7; Keys::SECRET]).expect("a level that TLS has secrets for")
+}
+
+/// The same packet without its token.
+fn long(number: u64) -> Long<'static> {
+    let Initial { number, acknowledged, number_length, destination, source, payload, .. } = initial(number);
+    Long { number, acknowledged, number_length, destination, source, payload }
 }
 
 /// A packet's bytes under the client's keys.

@@ -1,9 +1,9 @@
 //! Every refusal of every call, by its number.
 
-use crate::{client_keys, initial, sealed, ID, SENTINEL};
+use crate::{client_keys, initial, installed_keys, long, sealed, ID, SENTINEL};
 use driftwicket::retry::{self, Retry};
-use driftwicket::{open, read_header, read_integer, recover, seal, shorten, smallest_length};
-use driftwicket::{FullPn, Initial, Keys, NoRefusal, Refusal, Side, TruncatedPn, Version, LIMIT};
+use driftwicket::{open, read_header, read_integer, recover, seal, seal_long, shorten, smallest_length};
+use driftwicket::{FullPn, Initial, Keys, Level, Long, NoRefusal, Refusal, Side, TruncatedPn, Version, LIMIT};
 use std::error::Error;
 
 const BEYOND: FullPn = FullPn(1 << 62);
@@ -42,12 +42,25 @@ fn of_keys() {
 }
 
 #[test]
+fn of_installing_keys() {
+    let install = |version, level, side| Keys::install(version, level, side, &[7; Keys::SECRET]);
+    for version in [Version::ONE, Version::DRAFT_2] {
+        assert_eq!(install(version, Level::Initial, Side::Client).unwrap_err(), Refusal::Type);
+        assert_eq!(install(version, Level::Initial, Side::Server).unwrap_err(), Refusal::Type);
+        assert_eq!(install(version, Level::ZeroRtt, Side::Server).unwrap_err(), Refusal::Type);
+    }
+    assert_eq!(install(Version(2), Level::Initial, Side::Client).unwrap_err(), Refusal::Version);
+    assert_eq!(install(Version(2), Level::ZeroRtt, Side::Server).unwrap_err(), Refusal::Version);
+}
+
+#[test]
 fn of_sealing() {
     let keys = client_keys();
-    let unknown = Keys::from_bytes([0; Keys::LENGTH]);
+    let (unknown, others) = (Keys::from_bytes([0; Keys::LENGTH]), installed_keys(Level::Handshake));
     let good = initial(7);
     let cases = [
         (&unknown, Initial { number: BEYOND, ..good }, Refusal::Version),
+        (&others, Initial { number: BEYOND, ..good }, Refusal::Type),
         (&keys, Initial { number: BEYOND, number_length: 0, ..good }, Refusal::Range),
         (&keys, Initial { acknowledged: Some(FullPn(7)), number_length: 0, ..good }, Refusal::Gap),
         (&keys, Initial { number_length: 5, destination: LONG, ..good }, Refusal::Length),
@@ -60,6 +73,30 @@ fn of_sealing() {
     for (keys, packet, refusal) in cases {
         let mut out = [SENTINEL; 40];
         assert_eq!(seal(keys, &packet, &mut out), Err(refusal));
+        assert_eq!(out, [SENTINEL; 40]);
+    }
+}
+
+#[test]
+fn of_sealing_without_a_token() {
+    let keys = installed_keys(Level::ZeroRtt);
+    let (unknown, others) = (Keys::from_bytes([0; Keys::LENGTH]), client_keys());
+    let good = long(7);
+    let cases = [
+        (&unknown, Long { number: BEYOND, ..good }, Refusal::Version),
+        (&others, Long { number: BEYOND, ..good }, Refusal::Type),
+        (&keys, Long { number: BEYOND, number_length: 0, ..good }, Refusal::Range),
+        (&keys, Long { acknowledged: Some(FullPn(7)), number_length: 0, ..good }, Refusal::Gap),
+        (&keys, Long { number_length: 5, destination: LONG, ..good }, Refusal::Length),
+        (&keys, Long { destination: LONG, payload: b"", ..good }, Refusal::LongId),
+        (&keys, Long { source: LONG, payload: b"", ..good }, Refusal::LongId),
+        (&keys, Long { payload: b"1", ..good }, Refusal::Short),
+        (&keys, Long { payload: &[0; 1_500], ..good }, Refusal::Size),
+        (&keys, good, Refusal::Room),
+    ];
+    for (keys, packet, refusal) in cases {
+        let mut out = [SENTINEL; 40];
+        assert_eq!(seal_long(keys, &packet, &mut out), Err(refusal));
         assert_eq!(out, [SENTINEL; 40]);
     }
 }
@@ -81,7 +118,8 @@ fn bad_headers() -> Vec<(Vec<u8>, Refusal)> {
         (with(0, 0x40), Refusal::Form),
         (vec![0xc0, 0, 0, 0], Refusal::NotWhole),
         (with(1, 1), Refusal::Version),
-        (with(0, 0x10), Refusal::Type),
+        // of the types, a Retry's
+        (with(0, 0x30), Refusal::Type),
         (with(5, 0x40), Refusal::LongId),
         (with(17, 0x40), Refusal::LongId),
         (vec![0xc0, 0, 0, 0, 1, 0, 0, 0, 19], Refusal::Short),
@@ -113,6 +151,7 @@ fn of_opening() {
     assert_eq!(open(&client_keys(), &mut 0, &good, &mut []), Err(Refusal::Room));
     let others = Keys::initial(Version::DRAFT_2, &ID, Side::Client).unwrap();
     assert_eq!(open(&others, &mut 0, &good, &mut []), Err(Refusal::Version));
+    assert_eq!(open(&installed_keys(Level::Handshake), &mut 0, &good, &mut []), Err(Refusal::Type));
     let unknown = Keys::from_bytes([0; Keys::LENGTH]);
     assert_eq!(open(&unknown, &mut 0, &[], &mut []), Err(Refusal::Version));
 }
