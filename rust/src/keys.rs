@@ -37,7 +37,7 @@ impl Keys {
     pub const LENGTH: usize = 49;
 
     /// How many bytes a secret of TLS has, in the suites whose hash is SHA-256.
-    pub const SECRET: usize = 32;
+    pub const SECRET_LENGTH: usize = 32;
 
     /// Makes a sender's Initial keys from the Destination Connection ID of the client's Initial: its first, or after a
     /// Retry the one that the Retry set.
@@ -76,7 +76,7 @@ impl Keys {
     /// ```
     /// use driftwicket::{Keys, Level, Refusal, Side, Version};
     ///
-    /// let secret = [7; Keys::SECRET];
+    /// let secret = [7; Keys::SECRET_LENGTH];
     /// let keys = Keys::install(Version::ONE, Level::Handshake, Side::Server, &secret)?;
     /// assert_eq!(keys.level(), Some(Level::Handshake));
     ///
@@ -141,7 +141,7 @@ impl Keys {
     /// ```
     /// use driftwicket::{Keys, Level, Side, Version};
     ///
-    /// let keys = Keys::install(Version::ONE, Level::ZeroRtt, Side::Client, &[7; Keys::SECRET])?;
+    /// let keys = Keys::install(Version::ONE, Level::ZeroRtt, Side::Client, &[7; Keys::SECRET_LENGTH])?;
     /// assert_eq!(keys.level(), Some(Level::ZeroRtt));
     /// assert_eq!(Keys::from_bytes([0xff; Keys::LENGTH]).level(), None);
     /// # Ok::<(), driftwicket::Refusal>(())

@@ -94,7 +94,7 @@ pub struct Long<'a> {
 /// ```
 /// use driftwicket::{open, read_header, seal_long, FullPn, Keys, Level, Long, Refusal, Side, Version, LIMIT};
 ///
-/// let keys = Keys::install(Version::ONE, Level::Handshake, Side::Server, &[7; Keys::SECRET])?;
+/// let keys = Keys::install(Version::ONE, Level::Handshake, Side::Server, &[7; Keys::SECRET_LENGTH])?;
 /// let packet = Long {
 ///     number: FullPn(0),
 ///     acknowledged: None,
