@@ -13,7 +13,7 @@ const LEVEL_AT: usize = 4;
 fn keys(version: Version, level: Level) -> Keys {
     match level {
         Level::Initial => Keys::initial(version, &ID, Side::Client),
-        _ => Keys::install(version, level, Side::Client, &[level as u8; Keys::SECRET]),
+        _ => Keys::install(version, level, Side::Client, &[level as u8; Keys::SECRET_LENGTH]),
     }
     .expect("a known version, and a client")
 }

@@ -43,7 +43,8 @@ fn initial(number: u64) -> Initial<'static> {
 
 /// The client's keys of version 1 and another level than Initial.
 fn installed_keys(level: Level) -> Keys {
-    Keys::install(Version::ONE, level, Side::Client, &[7; Keys::SECRET]).expect("a level that TLS has secrets for")
+    Keys::install(Version::ONE, level, Side::Client, &[7; Keys::SECRET_LENGTH])
+        .expect("a level that TLS has secrets for")
 }
 
 /// The same packet without its token.

@@ -43,7 +43,7 @@ fn of_keys() {
 
 #[test]
 fn of_installing_keys() {
-    let install = |version, level, side| Keys::install(version, level, side, &[7; Keys::SECRET]);
+    let install = |version, level, side| Keys::install(version, level, side, &[7; Keys::SECRET_LENGTH]);
     for version in [Version::ONE, Version::DRAFT_2] {
         assert_eq!(install(version, Level::Initial, Side::Client).unwrap_err(), Refusal::Type);
         assert_eq!(install(version, Level::Initial, Side::Server).unwrap_err(), Refusal::Type);
