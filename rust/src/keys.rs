@@ -15,8 +15,8 @@ pub enum Side {
     Server,
 }
 
-/// One sender's keys of a level, with the version and the level that they are for. What one side seals, the other opens
-/// with the same record.
+/// One sender's keys, with the version and the level that they are for. What one side seals, the other opens with the
+/// same record.
 ///
 /// They hold secrets: `Debug` tells version and level alone, and the record is wiped when it is dropped. What isn't wiped:
 /// what a move of the record leaves where it was, what is copied from [`Keys::as_bytes`], and what the library leaves on
