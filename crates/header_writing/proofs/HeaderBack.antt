@@ -5,7 +5,7 @@ use mathlib.Core.List.{List, [], _∷_, _++_, append-assoc}
 use mathlib.Core.Bool.{true, _||_}
 use native.Mathlib.Omega.{arith}
 use lib.ListN.{length, getD, length-append}
-use Rattle.octets.specs.Outcome.{given}
+use Rattle.octets.specs.Outcome.{refused, given}
 use Rattle.octets.specs.Octets.{bytes, number, part}
 use Rattle.octets.proofs.Parts.{regroup}
 use Rattle.octets.proofs.Places.{At, begins, past, byte-at, part-at}
@@ -14,13 +14,13 @@ use Rattle.integers.specs.Integer.{integer}
 use Rattle.integers_writing.specs.Written.{smallest}
 use Rattle.integers_writing.proofs.IntegersBack.{smallest-back}
 use Rattle.versions.specs.Levels.{hasToken, hasNoToken}
-use Rattle.versions.specs.Versions.{known, version, typeFor}
+use Rattle.versions.specs.Versions.{known, version, typeFor, levelOf}
 use Rattle.versions.proofs.Versions.{version-fits, type-fits, retry-fits, level-back, without-token}
 use Rattle.header_forms.specs.Rules.{Rules, Readable}
 use Rattle.header_fields.specs.Fields.{longestId, leastLength, idAt, fieldAt, restAt}
 use Rattle.header_fields.proofs.Fields.{id-whole, integer-found, field-whole, rest-whole}
 use Rattle.header_long.specs.LongHeader.{Judge, onlyLevel, onlyRetry, Long, versionOf, long}
-use Rattle.header_long.proofs.LongHeaders.{version-found, level-wanted, retry-right, judged-right, long-found}
+use Rattle.header_long.proofs.LongHeaders.{version-found, level-wanted, level-other, retry-right, judged-type, judged-right, long-no-version, long-found}
 use Rattle.header_reading.specs.PacketHeader.{Token, tokenAt, Header, header}
 use Rattle.header_reading.proofs.PacketHeaders.{token-none, token-found, header-found}
 use Rattle.header_writing.specs.Written.{TokenField, holding, absent, writes, tokenBytes, Plain, longFirst, withLength, longFields, packetFields, lengthOf, fields}
@@ -65,12 +65,16 @@ named : (field : TokenField) (level : ℕ) → writes field level ≡ true → h
 named (holding token) level h = rw h
 named absent level h = rw (without-token level h, h)
 
--- a reader of one level takes the type that was written for it, and for that level
-pub level-taken : (v first level : ℕ) (field : TokenField) → first / 16 ≡ 12 + typeFor (version v) level → writes field level ≡ true
-    → given level ≡ onlyLevel level (version v) (first / 16 % 4)
-level-taken v first level field form suits =
-    let type = type-back first (typeFor (version v) level) form (type-fits v level) in
-    sym (level-wanted (version v) (first / 16 % 4) level (rw type (sym (level-back v level (named field level suits)))) refl)
+-- a reader of one level takes the type that was written for it, and for that level; a reader of another refuses it
+module _ (v first level : ℕ) (field : TokenField) (form : first / 16 ≡ 12 + typeFor (version v) level) (suits : writes field level ≡ true) where
+  level-read : given level ≡ levelOf (version v) (first / 16 % 4)
+  level-read = rw (type-back first (typeFor (version v) level) form (type-fits v level)) (sym (level-back v level (named field level suits)))
+
+  pub level-taken : given level ≡ onlyLevel level (version v) (first / 16 % 4)
+  level-taken = sym (level-wanted (version v) (first / 16 % 4) level level-read refl)
+
+  pub level-refused : (other : ℕ) → (level ≡ other → ⊥) → refused 6 ≡ onlyLevel other (version v) (first / 16 % 4)
+  level-refused other apart = sym (level-other (version v) (first / 16 % 4) other level-read apart)
 
 -- a reader of Retry takes Retry's
 pub retry-taken : (v first : ℕ) → first / 16 ≡ 12 + version v .retryType → given (version v .retryType) ≡ onlyRetry (version v) (first / 16 % 4)
@@ -128,18 +132,26 @@ module _ (v first : ℕ) (destination source d rest : List ℕ) (is : d ≡ firs
       let there = past d (6 + length destination) (6 + length destination + 1) (length source ∷ []) (source ++ rest) at-source refl in
       part-at d (6 + length destination + 1) (length source) source rest there refl
 
-module _ {A : Type 0} (judge : Judge A) (v first : ℕ) (kind : A) (destination source d rest : List ℕ) (w : LongWritten judge v first kind destination source d rest) where
+module _ (v first : ℕ) (destination source d rest : List ℕ) (is : d ≡ first ∷ longFields v destination source ++ rest) (ours : known v ≡ true) where
   version-read : versionOf d ≡ given v
   version-read =
-      let there = at-version v first destination source d rest (w .is) in
-      let end = at-destination v first destination source d rest (w .is) in
+      let there = at-version v first destination source d rest is in
+      let end = at-destination v first destination source d rest is in
       let value = ap number (part-at d 1 4 (bytes 4 v) (fromDestination destination source rest) there (bytes-length 4 v)) in
-      version-found d (omega arith) ∙ ap given (value ∙ number-back 4 v (version-fits v (w .ours)))
+      version-found d (omega arith) ∙ ap given (value ∙ number-back 4 v (version-fits v ours))
 
+  -- a reader that takes the version, and refuses the type
+  pub long-refused : {A : Type 0} (judge : Judge A) {n : ℕ} → judge .takes v ≡ true → refused n ≡ judge .kind (version v) (first / 16 % 4) → long judge d ≡ refused n
+  long-refused judge taken refuses =
+      let byte : first ≡ getD d 0 0 = rw is in
+      long-no-version judge d (sym (judged-type judge d (sym version-read) ours taken (rw (← byte) refuses)))
+
+module _ {A : Type 0} (judge : Judge A) (v first : ℕ) (kind : A) (destination source d rest : List ℕ) (w : LongWritten judge v first kind destination source d rest) where
   pub long-read : long judge d ≡ given (longPlaces v kind destination source)
   long-read =
       let byte : first ≡ getD d 0 0 = rw (w .is) in
-      let right = judged-right judge d (sym version-read) (w .ours) (w .taken) {a = kind} (rw (← byte) (w .judges)) in
+      let version = version-read v first destination source d rest (w .is) (w .ours) in
+      let right = judged-right judge d (sym version) (w .ours) (w .taken) {a = kind} (rw (← byte) (w .judges)) in
       let one = id-read d 5 destination _ (at-destination v first destination source d rest (w .is)) (w .short-destination) in
       let two = id-read d (6 + length destination) source rest (at-source v first destination source d rest (w .is)) (w .short-source) in
       long-found judge d (sym right) (sym one) (sym two)

@@ -1,4 +1,4 @@
--- A sealed packet is opened again, whatever stands behind it: its header is read back, and what was protected is found.
+-- A sealed packet is opened again, whatever stands behind it: its header is read back, and what was protected is found. Keys of another level refuse it.
 use Prim.Native.Nat.{ℕ, _+_, _/_, _≤_}
 use mathlib.Core.Path.{_≡_, refl, sym, ap, _∙_}
 use mathlib.Core.List.{List, _∷_, _++_, append-assoc}
@@ -6,7 +6,7 @@ use native.Mathlib.Omega.{arith}
 use lib.ListN.{length, getD, take, length-append}
 use lib.Seq.{take-at}
 use borrow.Author.Tests.{eq-eqb}
-use Rattle.octets.specs.Outcome.{given}
+use Rattle.octets.specs.Outcome.{refused, given}
 use Rattle.numbers.specs.Numbers.{numbers}
 use Rattle.numbers_recovery.specs.Recovery.{Near}
 use Rattle.versions.specs.Versions.{version, typeFor}
@@ -15,15 +15,17 @@ use Rattle.header_forms.specs.Rules.{Rules, Readable}
 use Rattle.header_forms.specs.Forms.{longForm, formed}
 use Rattle.header_forms.proofs.Forms.{formed-right}
 use Rattle.header_writing.specs.Written.{Plain, firstByte, fields, lengthOf}
-use Rattle.header_writing.proofs.HeaderBack.{Written, numberAt, number-place, level-taken, header-read}
+use Rattle.header_reading.proofs.PacketHeaders.{header-no-long}
+use Rattle.header_writing.proofs.HeaderBack.{level-taken, level-refused, long-refused, numberAt, is-long, number-place, Written, header-read}
 use Rattle.protection.specs.Suite.{Suite, Laws}
 use Rattle.protection.specs.Protection.{Keys}
 use Rattle.protection.specs.Clear.{Clear}
 use Rattle.protection.proofs.RoundTrip.{first-kept, hiddenFirst, fromNumber, protected-is, from-number-length, protected-length, unprotected-back}
 use Rattle.packets.specs.Packet.{clearOf, packetOf, ofKeys, opened}
 use Rattle.packets.specs.Effects.{whatWasSealed}
-use Rattle.packets.proofs.Sealing.{Sealed, well-made}
-use Rattle.packets.proofs.Opening.{open-protected}
+use Rattle.packets.specs.LevelsApart.{LevelsApart}
+use Rattle.packets.proofs.Sealing.{Sealed, sealing, well-made}
+use Rattle.packets.proofs.Opening.{open-header, open-protected}
 
 module _ (suite : Suite) (laws : Laws suite) (rules : Rules) (readable : Readable rules) (k : Keys) (p : Plain) (packet : List ℕ) (made : Sealed suite rules k p packet)
     (behind d : List ℕ) (joined : d ≡ packet ++ behind) (fits : length d ≤ rules .limit) where
@@ -76,6 +78,14 @@ module _ (suite : Suite) (laws : Laws suite) (rules : Rules) (readable : Readabl
     all = omega (arith, length-append (fromNumber suite k clear) behind, from-number-length suite k clear laws);
   }
 
+  -- keys of another level refuse the type
+  refused-joined : (other : Keys) → other .version ≡ v → (level ≡ other .level → ⊥) → (e room : ℕ) → e ≤ numbers → opened suite rules other e d room ≡ refused 6
+  refused-joined other same apart e room fair =
+      let begins = is-long rules v first p d rest is in
+      let refuses = level-refused v first level (p .token) first-form (made .suits) (other .level) apart in
+      let read = long-refused v first (p .destination) (p .source) d _ begins (made .ours) (ofKeys other) (eq-eqb v (other .version) (sym same)) refuses in
+      open-header suite rules other e d room fair (rw same (made .ours)) (sym long) (sym (header-no-long (ofKeys other) d (sym read)))
+
   opened-joined : (e room : ℕ) → e ≤ numbers → Near e (p .packetNumber) (p .numberLength) → length packet ≤ room + 16
       → opened suite rules k e d room ≡ given (whatWasSealed rules k p packet)
   opened-joined e room fair near enough =
@@ -91,3 +101,10 @@ pub opened-back : (suite : Suite) → Laws suite → (rules : Rules) → Readabl
     → (e room : ℕ) → e ≤ numbers → Near e (p .packetNumber) (p .numberLength) → length packet ≤ room + 16
     → opened suite rules k e (packet ++ behind) room ≡ given (whatWasSealed rules k p packet)
 opened-back suite laws rules readable k p packet made behind fits = opened-joined suite laws rules readable k p packet made behind (packet ++ behind) refl fits
+
+-- and by no keys of another level
+pub levels-apart : (suite : Suite) → Laws suite → (rules : Rules) → Readable rules → LevelsApart suite rules
+levels-apart suite laws rules readable k a p room packet h = record {
+  refuses = λ other same apart behind fits e room′.
+      refused-joined suite laws rules readable k p packet (sealing suite rules k a p room packet h) behind (packet ++ behind) refl fits other same apart e room′;
+}

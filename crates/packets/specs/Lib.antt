@@ -1,3 +1,4 @@
 pub mod Packet
 pub mod Sealable
 pub mod Effects
+pub mod LevelsApart

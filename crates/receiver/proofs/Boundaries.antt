@@ -30,4 +30,7 @@ boundaries = record {
   at-2^62 = refl;
   below-2^62 = refl;
   server-header = refl;
+  initial-space = refl;
+  zero-rtt-space = refl;
+  handshake-space = refl;
 }

@@ -1,3 +1,4 @@
 pub mod Boundaries
 pub mod Receiver
+pub mod Levels
 pub mod Example

@@ -1,5 +1,5 @@
 -- Demand 3: the parts of this receiver are lawful, and so it keeps its promise as any receiver of such parts does.
-use Prim.Native.Nat.{ℕ, _≤_, max}
+use Prim.Native.Nat.{ℕ, _≤_, _<_, max}
 use mathlib.Core.Path.{_≡_, refl, ap, _∙_}
 use mathlib.Core.List.{List}
 use native.Mathlib.Omega.{arith}
@@ -8,7 +8,7 @@ use Rattle.octets.specs.Outcome.{Outcome, refused, given}
 use Rattle.octets.proofs.Outcome.{apart, given-same}
 use Rattle.receivers.specs.Receivers as Receivers
 use Rattle.receivers.specs.Openings as Openings
-use Rattle.receivers.specs.Openings.{expectedOnly, Standing, isRefused, FairAs, terms, ComesOut, Lawful}
+use Rattle.receivers.specs.Openings.{expectedOnly, Standing, isRefused, FairAs, terms, Lawful}
 use Rattle.receivers.proofs.Receivers.{fair-too, reached}
 use Rattle.receivers.proofs.Openings.{expected-counts, outcome-alone, lawful-receives}
 use Rattle.numbers.specs.Numbers.{numbers}
@@ -18,10 +18,11 @@ use Rattle.header_forms.specs.Rules.{inForce}
 use Rattle.header_forms.proofs.Rules.{in-force-readable}
 use Rattle.protection.specs.Clear.{Opened}
 use Rattle.protection.specs.AesGcm.{aesGcm}
+use Rattle.packets.specs.Packet.{opened}
 use Rattle.packets.proofs.Sealing.{sealing}
 use Rattle.packets.proofs.OpenedBack.{opened-back}
 use Rattle.protection.proofs.AesGcmLaws.{aes-gcm-laws}
-use Rattle.receiver.specs.Receiver.{Arrival, effects, standing, opening, Sent, rubbish, parcel, Coming, arrival, isRubbish, FairOne, answerOwed, sending, promise, expectedBehind, yielded, OneStep, Demand3At, Demand3}
+use Rattle.receiver.specs.Receiver.{Arrival, effects, standing, opening, Sent, rubbish, parcel, Coming, datagramOf, arrival, isRubbish, FairOne, answerOwed, sending, promise, expectedBehind, yielded, OneStep, Demand3At, Demand3}
 
 -- ---- one step
 module _ (keys : Keys) (e : ℕ) where
@@ -52,30 +53,30 @@ reaches : (s : Standing Keys ℕ) (c : Coming) → promise .behind s c .kept ≡
 reaches s c = ap (λ (z : Standing Keys ℕ). z .kept) (behind-sent (s .holding) (s .kept) (c .sent) (c .buffer)) ∙ larger-behind (s .kept) (c .sent)
 
 -- ---- the parts are lawful
+pub refuses-rubbish : (keys : Keys) (sent : Sent) → isRefused (answerOwed keys sent) ≡ isRubbish sent
+refuses-rubbish keys (rubbish d n) = refl
+refuses-rubbish keys (parcel p) = refl
+
 module _ (suite : Suite) where
   abbrev FairComing : Standing Keys ℕ → Coming → Type 0
   FairComing s c = FairOne suite (s .holding) (s .kept) (c .sent) (c .buffer)
 
-  -- a good packet was sealed by the rules, and is opened back
-  comes-out : Laws suite → (keys : Keys) (e : ℕ) (sent : Sent) (buffer : List ℕ) (x : Opened) → e ≤ numbers → answerOwed keys sent ≡ given x
+  -- a good packet was sealed by the rules, and is opened back; its number is in range
+  pub good-opens : Laws suite → (keys : Keys) (e : ℕ) (sent : Sent) (buffer : List ℕ) (x : Opened) → e ≤ numbers → answerOwed keys sent ≡ given x
       → FairOne suite keys e sent buffer
-      → ComesOut (opening suite) expectedOnly sending numbers (standing keys e) (record { sent = sent; buffer = buffer }) x
-  comes-out laws keys e (rubbish d n) buffer x top owes f = absurd (apart owes)
-  comes-out laws keys e (parcel p) buffer x top owes f =
-      let made = sealing suite inForce keys (p .acknowledged) (p .plain) (p .room) (p .packet) (f .made) in
-      record {
-        opens = opened-back suite laws inForce in-force-readable keys (p .plain) (p .packet) made (p .behind) (f .fits) e (length buffer) top (f .near) (f .enough) ∙ owes;
-        passes = refl;
-        in-range = omega (arith, made .small, ap (λ (y : Opened). y .packetNumber) (given-same owes));
-      }
-
-  refuses-rubbish : (keys : Keys) (sent : Sent) → isRefused (answerOwed keys sent) ≡ isRubbish sent
-  refuses-rubbish keys (rubbish d n) = refl
-  refuses-rubbish keys (parcel p) = refl
+      → (opened suite inForce keys e (datagramOf sent) (length buffer) ≡ given x) × (x .packetNumber < numbers)
+  good-opens laws keys e (rubbish d n) buffer x top owes f = absurd (apart owes)
+  good-opens laws keys e (parcel p) buffer x top owes f =
+      let made = sealing suite inForce keys (p .acknowledged) (p .plain) (p .room) (p .packet) (f .made) in (
+        opened-back suite laws inForce in-force-readable keys (p .plain) (p .packet) made (p .behind) (f .fits) e (length buffer) top (f .near) (f .enough) ∙ owes,
+        omega (arith, made .small, ap (λ (y : Opened). y .packetNumber) (given-same owes)),
+      )
 
   lawful : Laws suite → Lawful (opening suite) expectedOnly sending FairComing numbers
   lawful laws = record {
-    good-comes-out = λ s c x right owes f. comes-out laws (s .holding) (s .kept) (c .sent) (c .buffer) x (right (arrival c)) owes f;
+    good-comes-out = λ s c x right owes f.
+        let out = good-opens laws (s .holding) (s .kept) (c .sent) (c .buffer) x (right (arrival c)) owes f in
+        record { opens = out .0; passes = refl; in-range = out .1 };
     refuses-rubbish = λ keys c. refuses-rubbish keys (c .sent);
     counts = expected-counts;
   }

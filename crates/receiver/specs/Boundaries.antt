@@ -9,8 +9,11 @@ use Rattle.hkdf.specs.Hkdf.{info}
 use Rattle.integers.specs.Integer.{integer}
 use Rattle.numbers_shortening.specs.Shortening.{upTo, smallestLength, shortened}
 use Rattle.numbers_recovery.specs.Recovery.{recovered}
+use Rattle.receivers.specs.Spaces as Spaces
+use Rattle.versions.specs.Levels.{initial, zeroRtt, handshake}
 use Rattle.header_forms.specs.Forms.{longForm}
 use Rattle.protection.specs.Protection.{masked}
+use Rattle.receiver.specs.Levels.{spaceOf}
 
 pub record Table : Type 0 where
   -- 7bbd reads 15,293; 4025 reads 37, in two bytes
@@ -38,3 +41,7 @@ pub record Table : Type 0 where
   -- document 003's server header, whose number stands in two bytes at 18, under its mask
   pub server-header : masked longForm (bytes 5 0x41103f438e) 18 2 (bytes 20 0xd1709a50c40008f067a5502a4262b50040750001)
       ≡ bytes 20 0xd0709a50c40008f067a5502a4262b5004075103e
+  -- three levels, three number spaces
+  pub initial-space : spaceOf initial ≡ Spaces.initial
+  pub zero-rtt-space : spaceOf zeroRtt ≡ Spaces.application
+  pub handshake-space : spaceOf handshake ≡ Spaces.handshake
