@@ -104,7 +104,7 @@ static inline const char *dw_refusal_words(uint32_t answer)
     case DW_REFUSED_NOT_WHOLE: return "a field isn't whole";
     case DW_REFUSED_VERSION: return "the version is unknown, or not that of the keys";
     case DW_REFUSED_LONG_ID: return "a connection ID is over 20 bytes";
-    case DW_REFUSED_TYPE: return "the packet's type isn't of the keys' level, or the level isn't one for this";
+    case DW_REFUSED_TYPE: return "the packet's type, or the level, isn't one for this";
     case DW_REFUSED_SHORT: return "Length is below 20, or there is too little to seal";
     case DW_REFUSED_ROOM: return "the output is too small";
     case DW_REFUSED_RESERVED: return "the reserved bits aren't zero after unmasking";

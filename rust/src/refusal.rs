@@ -96,7 +96,7 @@ impl Refusal {
             Refusal::NotWhole => "a field isn't whole",
             Refusal::Version => "the version is unknown, or not that of the keys",
             Refusal::LongId => "a connection ID is over 20 bytes",
-            Refusal::Type => "the packet's type isn't of the keys' level, or the level isn't one for this",
+            Refusal::Type => "the packet's type, or the level, isn't one for this",
             Refusal::Short => "Length is below 20, or there is too little to seal",
             Refusal::Room => "the output is too small",
             Refusal::Reserved => "the reserved bits aren't zero after unmasking",

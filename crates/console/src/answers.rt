@@ -7,13 +7,13 @@ ghost use Rattle.console.specs.Answers.{inside};
 const LABEL: usize = 15;
 
 // The words of each refusal, by its number: docs/SCOPE.md, "Refusals".
-const WORDS: [u8; 543] = *b"no refusal\n\
+const WORDS: [u8; 565] = *b"no refusal\n\
 the datagram is empty, or over 1,500 bytes\n\
 the form bit or the fixed bit is clear\n\
 a field isn't whole\n\
 the version is unknown, or not that of the keys\n\
 a connection ID is over 20 bytes\n\
-the packet is of another type\n\
+the packet's type, or the level, isn't one for this\n\
 Length is below 20, or there is too little to seal\n\
 the output is too small\n\
 the reserved bits aren't zero after unmasking\n\

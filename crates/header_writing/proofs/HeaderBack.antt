@@ -178,6 +178,19 @@ token-read level d at (holding token) rest has h small =
     token-found level d at has (sym (field-read d at token rest there (omega arith)))
 token-read level d at absent rest has h small = token-none level d at (without-token level has)
 
+-- and so is the token itself
+abbrev pub tokenHeld : TokenField → List ℕ
+tokenHeld (holding token) = token
+tokenHeld absent = []
+
+token-part : (d : List ℕ) (at : ℕ) (field : TokenField) (rest : List ℕ) → At d at (tokenBytes field ++ rest)
+    → part d (tokenPlace at field .place .at) (tokenPlace at field .place .len) ≡ tokenHeld field
+token-part d at (holding token) rest h =
+    let there : At d at (smallest (length token) ++ (token ++ rest)) = subst (At d at) (append-assoc (smallest (length token)) token rest) h in
+    let begins-here = past d at (at + length (smallest (length token))) (smallest (length token)) (token ++ rest) there refl in
+    part-at d (at + length (smallest (length token))) (length token) token rest begins-here refl
+token-part d at absent rest h = refl
+
 module _ (p : Plain) where
   -- the token's field and Length
   abbrev pub tokenFieldAt : ℕ
@@ -218,6 +231,9 @@ module _ (rules : Rules) (v first : ℕ) (p : Plain) (d rest : List ℕ) (is : d
 
   at-token : At d (tokenFieldAt p) (fromToken rules p rest)
   at-token = behind-ids v first (p .destination) (p .source) d (fromToken rules p rest) is-long
+
+  pub token-back : part d (tokenPlace (tokenFieldAt p) (p .token) .place .at) (tokenPlace (tokenFieldAt p) (p .token) .place .len) ≡ tokenHeld (p .token)
+  token-back = token-part d (tokenFieldAt p) (p .token) (fromLength rules p rest) at-token
 
   at-length : At d (lengthAt p) (fromLength rules p rest)
   at-length = past d (tokenFieldAt p) (lengthAt p) (tokenBytes (p .token)) (fromLength rules p rest) at-token refl
