@@ -50,9 +50,8 @@ static uint32_t seal_anew(const struct relay *relay, enum sender sender, const s
 {
     static const uint8_t padding[DW_LIMIT];
     struct bytes payload = bytes_of(payload_of(opened), (size_t)opened->payload_length);
-    struct initial header;
-    uint32_t version;
-    uint32_t answer = read_initial(datagram, &version, &header);
+    struct header header;
+    uint32_t answer = read_header(datagram, &header);
     header.number = opened->number;
     header.number_length = 1 + relay->seen % 4;
     if (answer == 0)
@@ -68,10 +67,9 @@ static struct bytes pass(struct relay *relay, enum sender sender, const struct b
 {
     struct bytes sealed;
     struct opened opened, again;
-    struct initial header;
-    uint32_t version;
+    struct header header;
     uint64_t expected = relay->expected[sender];
-    if (read_initial(datagram, &version, &header) != 0)
+    if (read_header(datagram, &header) != 0)
         return *datagram;
     relay->seen++;
     if (open_packet(relay->keys[sender], &relay->expected[sender], datagram, &opened) != 0)
@@ -101,13 +99,14 @@ static int pass_all(struct relay *relay, enum sender sender, struct peer *from, 
 /* The library answers the first Initial with a Retry in the server's place. */
 static int retry_between(struct relay *relay, struct peer *client, struct knock *knock)
 {
-    struct initial header;
+    struct header header;
     struct bytes retry;
     (void)pass(relay, CLIENT, &knock->datagram);
+    header.version = knock->version;
     header.destination = knock->source;
     header.source = pattern(0xe0, 18);
     header.token = pattern(0x31, 70);
-    if (make_retry(knock->version, &knock->destination, &header, 0x0a, &retry) != 0)
+    if (make_retry(&knock->destination, &header, 0x0a, &retry) != 0)
         return 0;
     record_retry(relay->record, relay->written, &retry);
     record_retry(relay->record, relay->sealed, &retry);

@@ -20,18 +20,18 @@ static void check_first_initial(uint32_t version, size_t destination, size_t sou
 {
     struct peer client;
     struct knock knock = knock_of(version, destination, source, token);
-    struct initial header;
+    struct header header;
     struct opened opened;
     uint8_t keys[DW_KEYS_SIZE], others[DW_KEYS_SIZE];
     uint64_t expected = 0;
-    uint32_t found, answer;
+    uint32_t answer;
     char shape[80];
     int ready = knock_first(&client, &knock) && keys_of(&knock, CLIENT, keys) && keys_of(&knock, SERVER, others);
     sprintf(shape, "ngtcp2's Initial, IDs of %zu and %zu bytes, token of %zu", destination, source, token);
-    answer = ready ? read_initial(&knock.datagram, &found, &header) : UINT32_MAX;
-    check(answer == 0 && found == version && same_bytes(&header.destination, &knock.destination) &&
-              same_bytes(&header.source, &knock.source) && same_bytes(&header.token, &knock.token),
-          "%s: version, IDs and token are read as ngtcp2 was told them", shape);
+    answer = ready ? read_header(&knock.datagram, &header) : UINT32_MAX;
+    check(answer == 0 && header.version == version && header.level == DW_LEVEL_INITIAL &&
+              same_bytes(&header.destination, &knock.destination) && same_bytes(&header.source, &knock.source) && same_bytes(&header.token, &knock.token),
+          "%s: level, version, IDs and token are read as ngtcp2 was told them", shape);
     answer = ready ? open_packet(keys, &expected, &knock.datagram, &opened) : UINT32_MAX;
     check(answer == 0 && opened.number == 0 && expected == 1 && opened.used == knock.datagram.length,
           "%s: opened as number 0, all %zu bytes used", shape, knock.datagram.length);
@@ -67,7 +67,8 @@ static int seal_answer(const struct knock *knock, uint64_t number, size_t number
                        struct bytes *datagram)
 {
     uint8_t keys[DW_KEYS_SIZE];
-    struct initial header;
+    struct header header;
+    header.level = DW_LEVEL_INITIAL;
     header.destination = knock->source;
     header.source = pattern(0x51, 8);
     header.token.length = 0;

@@ -28,7 +28,7 @@ int knock_first(struct peer *client, struct knock *knock)
     return knock->datagram.length >= 1200;
 }
 
-int knock_again(struct peer *client, struct knock *knock, const struct initial *retry_header,
+int knock_again(struct peer *client, struct knock *knock, const struct header *retry_header,
                 const struct bytes *retry)
 {
     if (peer_read(client, retry->at, retry->length) != 0 || client->retries != 1)

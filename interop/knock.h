@@ -27,7 +27,7 @@ struct knock knock_of(uint32_t version, size_t destination, size_t source, size_
 int knock_first(struct peer *client, struct knock *knock);
 
 /* Hands the client this Retry and lets it write again, which it does under the Retry's ID and with its token. */
-int knock_again(struct peer *client, struct knock *knock, const struct initial *retry_header,
+int knock_again(struct peer *client, struct knock *knock, const struct header *retry_header,
                 const struct bytes *retry);
 
 /* A server for the client; `original` is the ID of its very first Initial, another one than now after a Retry. */

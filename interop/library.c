@@ -107,14 +107,15 @@ static void seal_initial(void)
 
 static void write_retry(void)
 {
-    uint32_t version = (uint32_t)next_number();
-    struct bytes original = next_bytes(), packet;
-    struct initial header;
+    struct bytes original, packet;
+    struct header header;
     uint32_t refusal;
+    header.version = (uint32_t)next_number();
+    original = next_bytes();
     header.destination = next_bytes();
     header.source = next_bytes();
     header.token = next_bytes();
-    refusal = make_retry(version, &original, &header, next_number(), &packet);
+    refusal = make_retry(&original, &header, next_number(), &packet);
     answer(refusal, &packet);
 }
 
@@ -124,7 +125,7 @@ static void open_initial(void)
     struct bytes id = next_bytes();
     uint32_t sender = next_sender();
     struct bytes datagram = next_bytes();
-    struct initial header;
+    struct header header;
     struct opened opened;
     uint8_t keys[DW_KEYS_SIZE];
     uint64_t expected = 0;
@@ -132,7 +133,7 @@ static void open_initial(void)
     if (refusal == DW_OK)
         refusal = open_packet(keys, &expected, &datagram, &opened);
     if (refusal == DW_OK)
-        refusal = read_initial(&datagram, &version, &header);
+        refusal = read_header(&datagram, &header);
     if (refusal != DW_OK) {
         printf("refused %" PRIu32 "\n", refusal);
         return;

@@ -90,14 +90,20 @@ uint32_t open_packet(const uint8_t keys[DW_KEYS_SIZE], uint64_t *expected, const
 }
 
 /* Nothing counts as acknowledged: the numbers here are small, so that every length from 1 to 4 covers them. */
-uint32_t seal_packet(const uint8_t keys[DW_KEYS_SIZE], const struct initial *header, const struct bytes *payload,
+uint32_t seal_packet(const uint8_t keys[DW_KEYS_SIZE], const struct header *header, const struct bytes *payload,
                      struct bytes *datagram)
 {
     uint64_t report[DW_SEALED_REPORT] = {0};
-    uint32_t answer = dw_seal(keys, header->number, 0, 0, header->number_length, header->destination.at,
-                              header->destination.length, header->source.at, header->source.length, header->token.at,
-                              header->token.length, payload->at, payload->length, datagram->at, sizeof datagram->at,
-                              report);
+    const struct bytes *destination = &header->destination, *source = &header->source, *token = &header->token;
+    uint32_t answer;
+    if (header->level == DW_LEVEL_INITIAL)
+        answer = dw_seal(keys, header->number, 0, 0, header->number_length, destination->at, destination->length,
+                         source->at, source->length, token->at, token->length, payload->at, payload->length,
+                         datagram->at, sizeof datagram->at, report);
+    else
+        answer = dw_seal_long(keys, header->number, 0, 0, header->number_length, destination->at, destination->length,
+                              source->at, source->length, payload->at, payload->length, datagram->at,
+                              sizeof datagram->at, report);
     datagram->length = (size_t)report[DW_SEALED_LEN];
     return answer;
 }
@@ -110,7 +116,7 @@ static struct bytes part(const struct bytes *datagram, const uint64_t *place)
 
 /* The IDs and the token of a datagram, by their places in a report; a header that is only read has no number yet. */
 static void take_fields(const struct bytes *datagram, const uint64_t *destination, const uint64_t *source,
-                        const uint64_t *token, struct initial *header)
+                        const uint64_t *token, struct header *header)
 {
     header->destination = part(datagram, destination);
     header->source = part(datagram, source);
@@ -119,32 +125,32 @@ static void take_fields(const struct bytes *datagram, const uint64_t *destinatio
     header->number_length = 0;
 }
 
-uint32_t read_initial(const struct bytes *datagram, uint32_t *version, struct initial *header)
+uint32_t read_header(const struct bytes *datagram, struct header *header)
 {
     uint64_t report[DW_HEADER_REPORT] = {0};
     uint32_t answer = dw_read_header(datagram->at, datagram->length, report);
-    *version = (uint32_t)report[DW_HEADER_VERSION];
+    header->version = (uint32_t)report[DW_HEADER_VERSION];
+    header->level = (uint32_t)report[DW_HEADER_LEVEL];
     take_fields(datagram, report + DW_HEADER_DESTINATION_AT, report + DW_HEADER_SOURCE_AT, report + DW_HEADER_TOKEN_AT,
                 header);
     return answer;
 }
 
-uint32_t check_retry(const struct bytes *original, const struct bytes *datagram, uint32_t *version,
-                     struct initial *header)
+uint32_t check_retry(const struct bytes *original, const struct bytes *datagram, struct header *header)
 {
     uint64_t report[DW_CHECKED_REPORT] = {0};
     uint32_t answer = dw_check_retry(original->at, original->length, datagram->at, datagram->length, report);
-    *version = (uint32_t)report[DW_CHECKED_VERSION];
+    header->version = (uint32_t)report[DW_CHECKED_VERSION];
     take_fields(datagram, report + DW_CHECKED_DESTINATION_AT, report + DW_CHECKED_SOURCE_AT,
                 report + DW_CHECKED_TOKEN_AT, header);
     return answer;
 }
 
-uint32_t make_retry(uint32_t version, const struct bytes *original, const struct initial *header, uint64_t low_bits,
+uint32_t make_retry(const struct bytes *original, const struct header *header, uint64_t low_bits,
                     struct bytes *datagram)
 {
     uint64_t report[DW_WRITTEN_REPORT] = {0};
-    uint32_t answer = dw_write_retry(version, original->at, original->length, header->destination.at,
+    uint32_t answer = dw_write_retry(header->version, original->at, original->length, header->destination.at,
                                      header->destination.length, header->source.at, header->source.length,
                                      header->token.at, header->token.length, low_bits, datagram->at,
                                      sizeof datagram->at, report);

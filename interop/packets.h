@@ -17,8 +17,10 @@ struct bytes {
     size_t length;
 };
 
-/* What stands in an Initial before its number, and the number. */
-struct initial {
+/* What stands in a packet with a long header before its payload. An Initial has a token, and a Retry has, but no level. */
+struct header {
+    uint32_t version;
+    uint32_t level;
     struct bytes destination;
     struct bytes source;
     struct bytes token;
@@ -63,13 +65,13 @@ int payload_holds(const struct opened *opened, const char *text);
 /* The library's answers: 0 or the refusal. `opened` is meaningful where the answer is 0. */
 uint32_t open_packet(const uint8_t keys[DW_KEYS_SIZE], uint64_t *expected, const struct bytes *datagram,
                      struct opened *opened);
-uint32_t seal_packet(const uint8_t keys[DW_KEYS_SIZE], const struct initial *header, const struct bytes *payload,
+/* Sealing is dw_seal for a header of the Initial level and dw_seal_long for others. */
+uint32_t seal_packet(const uint8_t keys[DW_KEYS_SIZE], const struct header *header, const struct bytes *payload,
                      struct bytes *datagram);
 /* The number stays covered by header protection, and a Retry has none: it is set to 0, and its length too. */
-uint32_t read_initial(const struct bytes *datagram, uint32_t *version, struct initial *header);
-uint32_t check_retry(const struct bytes *original, const struct bytes *datagram, uint32_t *version,
-                     struct initial *header);
-uint32_t make_retry(uint32_t version, const struct bytes *original, const struct initial *header, uint64_t low_bits,
+uint32_t read_header(const struct bytes *datagram, struct header *header);
+uint32_t check_retry(const struct bytes *original, const struct bytes *datagram, struct header *header);
+uint32_t make_retry(const struct bytes *original, const struct header *header, uint64_t low_bits,
                     struct bytes *datagram);
 
 #endif

@@ -9,18 +9,18 @@ static void check_retry_obeyed(uint32_t version)
 {
     struct peer client;
     struct knock knock = knock_of(version, 8, 8, 0);
-    struct initial header, found;
+    struct header header, found;
     struct bytes retry;
     struct opened opened;
     uint8_t keys[DW_KEYS_SIZE];
     uint64_t expected = 0;
     size_t place, dropped = 0;
-    uint32_t found_version;
     int ready = knock_first(&client, &knock);
+    header.version = version;
     header.destination = knock.source;
     header.source = pattern(0xe0, 20);
     header.token = pattern(0x31, 77);
-    ready = ready && make_retry(version, &knock.destination, &header, 0x0d, &retry) == 0;
+    ready = ready && make_retry(&knock.destination, &header, 0x0d, &retry) == 0;
     for (place = 0; ready && place < retry.length; place++) {
         struct bytes copy = damaged(&retry, place);
         dropped += peer_read(&client, copy.at, copy.length) == 0 && client.retries == 0;
@@ -28,7 +28,7 @@ static void check_retry_obeyed(uint32_t version)
     check(ready && dropped == retry.length, "ngtcp2's client drops %zu damaged copies of the library's Retry", dropped);
     ready = ready && knock_again(&client, &knock, &header, &retry);
     check(ready, "ngtcp2's client accepts the library's Retry");
-    ready = ready && read_initial(&knock.datagram, &found_version, &found) == 0;
+    ready = ready && read_header(&knock.datagram, &found) == 0;
     check(ready && same_bytes(&found.destination, &header.source) && same_bytes(&found.token, &header.token),
           "ngtcp2's Initial after it goes to the Retry's ID and carries its token");
     ready = ready && keys_of(&knock, CLIENT, keys) && open_packet(keys, &expected, &knock.datagram, &opened) == 0;
@@ -38,14 +38,14 @@ static void check_retry_obeyed(uint32_t version)
 }
 
 /* A Retry of ngtcp2's under this header. */
-static struct bytes written_by_ngtcp2(uint32_t version, const struct bytes *original, const struct initial *header)
+static struct bytes written_by_ngtcp2(const struct bytes *original, const struct header *header)
 {
     struct bytes retry;
     ngtcp2_cid destination = id_of(&header->destination);
     ngtcp2_cid source = id_of(&header->source);
     ngtcp2_cid first = id_of(original);
-    ngtcp2_ssize length = ngtcp2_crypto_write_retry(retry.at, sizeof retry.at, version, &destination, &source, &first,
-                                                    header->token.at, header->token.length);
+    ngtcp2_ssize length = ngtcp2_crypto_write_retry(retry.at, sizeof retry.at, header->version, &destination, &source,
+                                                    &first, header->token.at, header->token.length);
     retry.length = length > 0 ? (size_t)length : 0;
     return retry;
 }
@@ -54,22 +54,22 @@ static struct bytes written_by_ngtcp2(uint32_t version, const struct bytes *orig
 static void check_retry_checked(uint32_t version)
 {
     struct bytes original = pattern(0x83, 8), own, retry;
-    struct initial header, found;
+    struct header header, found;
     size_t place, refused = 0;
-    uint32_t found_version;
+    header.version = version;
     header.destination = pattern(0xc1, 5);
     header.source = pattern(0xe0, 18);
     header.token = pattern(0x31, 64);
-    retry = written_by_ngtcp2(version, &original, &header);
-    check(check_retry(&original, &retry, &found_version, &found) == DW_OK && found_version == version &&
+    retry = written_by_ngtcp2(&original, &header);
+    check(check_retry(&original, &retry, &found) == DW_OK && found.version == version &&
               same_bytes(&found.destination, &header.destination) && same_bytes(&found.source, &header.source) &&
               same_bytes(&found.token, &header.token),
           "the library accepts ngtcp2's Retry, with its IDs and token");
-    check(make_retry(version, &original, &header, retry.at[0] & 0x0f, &own) == 0 && same_bytes(&own, &retry),
+    check(make_retry(&original, &header, retry.at[0] & 0x0f, &own) == 0 && same_bytes(&own, &retry),
           "the library writes the same %zu bytes of Retry as ngtcp2", retry.length);
     for (place = 0; place < retry.length; place++) {
         struct bytes copy = damaged(&retry, place);
-        refused += check_retry(&original, &copy, &found_version, &found) != DW_OK;
+        refused += check_retry(&original, &copy, &found) != DW_OK;
     }
     check(refused > 0 && refused == retry.length, "%zu damaged copies of ngtcp2's Retry are refused", refused);
 }
