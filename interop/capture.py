@@ -27,7 +27,7 @@ class Broken(Exception):
 
 @dataclasses.dataclass
 class Dissected:
-    """What tshark says of a datagram's first QUIC packet, and the decrypted bytes of the whole datagram, part for part."""
+    """What tshark says of a QUIC packet, and the decrypted bytes of its whole datagram, part for part."""
 
     fields: dict
     decrypted: list
@@ -85,11 +85,10 @@ def tshark(path, *arguments):
     return run.stdout
 
 
-def fields_of(packet):
-    """The fields of the first QUIC packet in a datagram: name to (show, value, words)."""
+def fields_of(quic):
+    """The fields of a QUIC packet: name to (show, value, words)."""
     fields = {}
-    quic = packet.find("proto[@name='quic']")
-    for field in quic.iter("field") if quic is not None else ():
+    for field in quic.iter("field"):
         entry = field.get("show", ""), field.get("value", ""), field.get("showname", "")
         fields.setdefault(field.get("name"), []).append(entry)
     return fields
@@ -110,11 +109,17 @@ def decrypted_of(dump):
     return [[bytes(data) for name, data in sources if name == "Decrypted QUIC"] for sources in datagrams]
 
 
-def dissect(path, datagrams):
-    """Writes the capture, lets tshark read it and answers a Dissected for each datagram."""
+def dissect_all(path, datagrams, *arguments):
+    """Writes the capture, lets tshark read it and answers for each datagram a Dissected of each QUIC packet in it."""
     write(path, datagrams)
-    packets = xml.etree.ElementTree.fromstring(tshark(path, "-T", "pdml").encode()).findall("packet")
-    decrypted = decrypted_of(tshark(path, "-P", "-x"))
-    if not len(packets) == len(decrypted) == len(datagrams):
-        raise Broken(f"tshark shows {len(packets)} and {len(decrypted)} of {len(datagrams)} datagrams")
-    return [Dissected(fields_of(packet), parts) for packet, parts in zip(packets, decrypted)]
+    shown = xml.etree.ElementTree.fromstring(tshark(path, "-T", "pdml", *arguments).encode()).findall("packet")
+    decrypted = decrypted_of(tshark(path, "-P", "-x", *arguments))
+    if not len(shown) == len(decrypted) == len(datagrams):
+        raise Broken(f"tshark shows {len(shown)} and {len(decrypted)} of {len(datagrams)} datagrams")
+    packets = [[fields_of(quic) for quic in one.findall("proto[@name='quic']")] for one in shown]
+    return [[Dissected(fields, parts) for fields in many] for many, parts in zip(packets, decrypted)]
+
+
+def dissect(path, datagrams):
+    """The first QUIC packet of each datagram, without fields where tshark sees none."""
+    return [[*packets, Dissected({}, [])][0] for packets in dissect_all(path, datagrams)]

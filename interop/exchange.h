@@ -13,7 +13,7 @@ void check_initials(uint32_t version);
 /* Retry packets likewise. */
 void check_retries(uint32_t version);
 
-/* Whole handshakes, whose Initials are written to `record` as exchange.c says. */
+/* Whole handshakes, whose datagrams are written to `record` as exchange.c says. */
 void check_handshakes(uint32_t version, FILE *record);
 
 #endif

@@ -77,8 +77,8 @@ def hellos(record):
     """The ClientHello and the ServerHello of a handshake in the record, by their senders."""
     found = {}
     for line in (line for lines in record.values() for line in lines):
-        if line.kind == "initial" and line.sender not in found:
-            found[line.sender] = crypto_data(line.payload)
+        if line.packets[0].kind == "Initial" and line.sender not in found:
+            found[line.sender] = crypto_data(bytes.fromhex(line.packets[0].payload))
     types = {sender: data[0] for sender, data in found.items()}
     if types != {"client": CLIENT_HELLO, "server": SERVER_HELLO}:
         raise capture.Broken(f"no ClientHello and ServerHello were recorded: {types}")

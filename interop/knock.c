@@ -18,14 +18,28 @@ struct knock knock_of(uint32_t version, size_t destination, size_t source, size_
     return knock;
 }
 
-int knock_first(struct peer *client, struct knock *knock)
+static int make_client(struct peer *client, const struct knock *knock)
 {
     ngtcp2_cid destination = id_of(&knock->destination);
     ngtcp2_cid source = id_of(&knock->source);
-    if (peer_client(client, knock->version, &destination, &source, knock->token.at, knock->token.length) != 0)
-        return 0;
+    return peer_client(client, knock->version, &destination, &source, knock->token.at, knock->token.length) == 0;
+}
+
+static int write_knock(struct peer *client, struct knock *knock)
+{
     knock->datagram.length = peer_write(client, knock->datagram.at, sizeof knock->datagram.at);
     return knock->datagram.length >= 1200;
+}
+
+int knock_first(struct peer *client, struct knock *knock)
+{
+    return make_client(client, knock) && write_knock(client, knock);
+}
+
+int knock_resuming(struct peer *client, struct knock *knock, const struct kept *kept, const struct bytes *data)
+{
+    return make_client(client, knock) && peer_resume(client, kept, data->at, data->length) == 0 &&
+           write_knock(client, knock);
 }
 
 int knock_again(struct peer *client, struct knock *knock, const struct header *retry_header,
@@ -35,8 +49,7 @@ int knock_again(struct peer *client, struct knock *knock, const struct header *r
         return 0;
     knock->destination = retry_header->source;
     knock->token = retry_header->token;
-    knock->datagram.length = peer_write(client, knock->datagram.at, sizeof knock->datagram.at);
-    return knock->datagram.length >= 1200;
+    return write_knock(client, knock);
 }
 
 int answer_knock(struct peer *server, const struct knock *knock, const struct bytes *original)

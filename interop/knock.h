@@ -26,6 +26,9 @@ struct knock knock_of(uint32_t version, size_t destination, size_t source, size_
 /* Makes the client and lets it write its first datagram, which must have at least 1,200 bytes (RFC 9000 section 14.1). */
 int knock_first(struct peer *client, struct knock *knock);
 
+/* The same by a client that resumes and sends this data early (RFC 9001 section 4.6). */
+int knock_resuming(struct peer *client, struct knock *knock, const struct kept *kept, const struct bytes *data);
+
 /* Hands the client this Retry and lets it write again, which it does under the Retry's ID and with its token. */
 int knock_again(struct peer *client, struct knock *knock, const struct header *retry_header,
                 const struct bytes *retry);

@@ -9,6 +9,7 @@
  * one that the keys are made from; SENDER is client or server. The answers are the packet, or for one that is opened
  * "opened DESTINATION SOURCE TOKEN NUMBER LENGTH PAYLOAD", or "refused" and the refusal's number.
  */
+#include "hex.h"
 #include "packets.h"
 
 #include <inttypes.h>
@@ -61,9 +62,7 @@ static struct bytes next_bytes(void)
 
 static void print_bytes(const uint8_t *at, size_t length)
 {
-    size_t i;
-    for (i = 0; i < length; i++)
-        printf("%02x", at[i]);
+    write_hex(stdout, at, length);
     if (length == 0)
         putchar('-');
 }

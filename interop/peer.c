@@ -1,14 +1,13 @@
 #include "peer.h"
 
+#include "tls.h"
+
 #include <arpa/inet.h>
 #include <gnutls/crypto.h>
-#include <gnutls/x509.h>
-#include <ngtcp2/ngtcp2_crypto_gnutls.h>
 #include <string.h>
-#include <time.h>
 
-/* QUIC asks for TLS 1.3 without the changes that old middle boxes need (RFC 9001 section 8.4). */
-static const char priorities[] = "NORMAL:-VERS-ALL:+VERS-TLS1.3:%DISABLE_TLS13_COMPAT_MODE";
+/* What ngtcp2 takes for no stream at all. */
+#define NO_STREAM (-1)
 
 unsigned peer_decrypted;
 size_t peer_number_length;
@@ -46,14 +45,14 @@ static int another_id(ngtcp2_conn *connection, ngtcp2_cid *id, uint8_t *reset_to
     return 0;
 }
 
-/* ngtcp2's own decryption, counted where it succeeds; the plain header is the associated data. */
+/* ngtcp2's own decryption, counted where a long header succeeds; the plain header is the associated data. */
 static int counted_decrypt(uint8_t *plain, const ngtcp2_crypto_aead *aead, const ngtcp2_crypto_aead_ctx *key,
                            const uint8_t *protected, size_t length, const uint8_t *nonce, size_t nonce_length,
                            const uint8_t *associated, size_t associated_length)
 {
     int answer = ngtcp2_crypto_decrypt_cb(plain, aead, key, protected, length, nonce, nonce_length, associated,
                                           associated_length);
-    if (answer == 0) {
+    if (answer == 0 && (associated[0] & LONG_HEADER) != 0) {
         peer_decrypted++;
         peer_number_length = 1 + (associated[0] & 0x03u);
     }
@@ -76,6 +75,22 @@ static int noted_retry(ngtcp2_conn *connection, const ngtcp2_pkt_hd *header, voi
     return ngtcp2_crypto_recv_retry_cb(connection, header, user_data);
 }
 
+/* RFC 9001 section 4.6: what came before the handshake was complete came in 0-RTT packets, and is kept. */
+static int noted_stream(ngtcp2_conn *connection, uint32_t flags, int64_t stream, uint64_t offset, const uint8_t *data,
+                        size_t length, void *user_data, void *stream_user_data)
+{
+    struct peer *peer = user_data;
+    (void)connection;
+    (void)stream;
+    (void)stream_user_data;
+    if ((flags & NGTCP2_STREAM_DATA_FLAG_EARLY) == 0 || offset != peer->early_length ||
+        length > sizeof peer->early - peer->early_length)
+        return NGTCP2_ERR_CALLBACK_FAILURE;
+    memcpy(peer->early + peer->early_length, data, length);
+    peer->early_length += length;
+    return 0;
+}
+
 static ngtcp2_callbacks callbacks(void)
 {
     ngtcp2_callbacks all;
@@ -84,6 +99,7 @@ static ngtcp2_callbacks callbacks(void)
     all.recv_client_initial = ngtcp2_crypto_recv_client_initial_cb;
     all.recv_crypto_data = noted_crypto;
     all.recv_retry = noted_retry;
+    all.recv_stream_data = noted_stream;
     all.encrypt = ngtcp2_crypto_encrypt_cb;
     all.decrypt = counted_decrypt;
     all.hp_mask = ngtcp2_crypto_hp_mask_cb;
@@ -126,58 +142,32 @@ static void set_path(struct peer *peer, struct sockaddr_in own, struct sockaddr_
     ngtcp2_addr_init(&peer->path.remote, (ngtcp2_sockaddr *)&peer->other_address, sizeof other);
 }
 
-/* A fresh P-256 key and a certificate for it, signed by itself. */
-static int own_certificate(gnutls_certificate_credentials_t credentials)
+/* A server takes one stream of the client's, which is enough for early data. */
+static ngtcp2_transport_params parameters_of(const struct first_initial *first)
 {
-    gnutls_x509_privkey_t key;
-    gnutls_x509_crt_t certificate;
-    time_t today = time(NULL);
-    int answer;
-    if (gnutls_x509_privkey_init(&key) != 0 || gnutls_x509_crt_init(&certificate) != 0)
-        return GNUTLS_E_MEMORY_ERROR;
-    answer = gnutls_x509_privkey_generate(key, GNUTLS_PK_ECDSA, GNUTLS_CURVE_TO_BITS(GNUTLS_ECC_CURVE_SECP256R1), 0);
-    if (answer == 0)
-        answer = gnutls_x509_crt_set_dn(certificate, "CN=" PEER_SERVER_NAME, NULL);
-    if (answer == 0)
-        answer = gnutls_x509_crt_set_version(certificate, 3);
-    if (answer == 0)
-        answer = gnutls_x509_crt_set_serial(certificate, "\x01", 1);
-    if (answer == 0)
-        answer = gnutls_x509_crt_set_activation_time(certificate, today - 3600);
-    if (answer == 0)
-        answer = gnutls_x509_crt_set_expiration_time(certificate, today + 3600);
-    if (answer == 0)
-        answer = gnutls_x509_crt_set_key(certificate, key);
-    if (answer == 0)
-        answer = gnutls_x509_crt_sign2(certificate, certificate, key, GNUTLS_DIG_SHA256, 0);
-    if (answer == 0)
-        answer = gnutls_certificate_set_x509_key(credentials, &certificate, 1, key);
-    gnutls_x509_crt_deinit(certificate);
-    gnutls_x509_privkey_deinit(key);
-    return answer;
+    ngtcp2_transport_params all;
+    ngtcp2_transport_params_default(&all);
+    if (first == NULL)
+        return all;
+    all.initial_max_streams_uni = 1;
+    all.initial_max_stream_data_uni = PEER_EARLY_SIZE;
+    all.initial_max_data = PEER_EARLY_SIZE;
+    all.original_dcid = *first->original;
+    if (first->retry != NULL) {
+        all.retry_scid = *first->retry;
+        all.retry_scid_present = 1;
+    }
+    return all;
 }
 
-/* A TLS session of one side; `side` is GNUTLS_CLIENT or GNUTLS_SERVER. */
-static int start_session(struct peer *peer, unsigned side)
+/* What client and server have in common at first. */
+static int start(struct peer *peer, unsigned side)
 {
-    int answer = gnutls_certificate_allocate_credentials(&peer->credentials);
-    if (answer == 0)
-        answer = gnutls_init(&peer->session, side);
-    if (answer == 0)
-        answer = gnutls_priority_set_direct(peer->session, priorities, NULL);
-    if (answer == 0)
-        answer = gnutls_credentials_set(peer->session, GNUTLS_CRD_CERTIFICATE, peer->credentials);
-    if (answer != 0)
-        return answer;
+    memset(peer, 0, sizeof *peer);
+    peer->stream = NO_STREAM;
     peer->reference.get_conn = connection_of;
     peer->reference.user_data = peer;
-    gnutls_session_set_ptr(peer->session, &peer->reference);
-    if (side == GNUTLS_SERVER) {
-        answer = own_certificate(peer->credentials);
-        return answer == 0 ? ngtcp2_crypto_gnutls_configure_server_session(peer->session) : answer;
-    }
-    answer = gnutls_server_name_set(peer->session, GNUTLS_NAME_DNS, PEER_SERVER_NAME, strlen(PEER_SERVER_NAME));
-    return answer == 0 ? ngtcp2_crypto_gnutls_configure_client_session(peer->session) : answer;
+    return tls_start(peer, side);
 }
 
 int peer_client(struct peer *peer, uint32_t version, const ngtcp2_cid *destination, const ngtcp2_cid *source,
@@ -185,12 +175,9 @@ int peer_client(struct peer *peer, uint32_t version, const ngtcp2_cid *destinati
 {
     ngtcp2_callbacks all = callbacks();
     ngtcp2_settings chosen = settings(token, token_length);
-    ngtcp2_transport_params parameters;
-    int answer;
-    memset(peer, 0, sizeof *peer);
+    ngtcp2_transport_params parameters = parameters_of(NULL);
+    int answer = start(peer, GNUTLS_CLIENT);
     set_path(peer, address("192.0.2.1", 50000), address("192.0.2.2", 443));
-    ngtcp2_transport_params_default(&parameters);
-    answer = start_session(peer, GNUTLS_CLIENT);
     if (answer == 0)
         answer = ngtcp2_conn_client_new(&peer->connection, destination, source, &peer->path, version, &all, &chosen,
                                         &parameters, NULL, peer);
@@ -203,17 +190,9 @@ int peer_server(struct peer *peer, uint32_t version, const ngtcp2_cid *own, cons
 {
     ngtcp2_callbacks all = callbacks();
     ngtcp2_settings chosen = settings(NULL, 0);
-    ngtcp2_transport_params parameters;
-    int answer;
-    memset(peer, 0, sizeof *peer);
+    ngtcp2_transport_params parameters = parameters_of(first);
+    int answer = start(peer, GNUTLS_SERVER);
     set_path(peer, address("192.0.2.2", 443), address("192.0.2.1", 50000));
-    ngtcp2_transport_params_default(&parameters);
-    parameters.original_dcid = *first->original;
-    if (first->retry != NULL) {
-        parameters.retry_scid = *first->retry;
-        parameters.retry_scid_present = 1;
-    }
-    answer = start_session(peer, GNUTLS_SERVER);
     if (answer == 0)
         answer = ngtcp2_conn_server_new(&peer->connection, first->client, own, &peer->path, version, &all, &chosen,
                                         &parameters, NULL, peer);
@@ -222,9 +201,43 @@ int peer_server(struct peer *peer, uint32_t version, const ngtcp2_cid *own, cons
     return answer;
 }
 
+int peer_keep(struct peer *client, struct kept *kept)
+{
+    if ((gnutls_session_get_flags(client->session) & GNUTLS_SFLAGS_SESSION_TICKET) == 0)
+        return GNUTLS_E_REQUESTED_DATA_NOT_AVAILABLE;
+    kept->parameters = *ngtcp2_conn_get_remote_transport_params(client->connection);
+    return gnutls_session_get_data2(client->session, &kept->session);
+}
+
+int peer_resume(struct peer *client, const struct kept *kept, const uint8_t *data, size_t length)
+{
+    int answer = gnutls_session_set_data(client->session, kept->session.data, kept->session.size);
+    if (answer != 0)
+        return answer;
+    client->unsent = data;
+    client->unsent_length = length;
+    ngtcp2_conn_set_early_remote_transport_params(client->connection, &kept->parameters);
+    return ngtcp2_conn_open_uni_stream(client->connection, &client->stream, NULL);
+}
+
+void peer_forget(struct kept *kept)
+{
+    gnutls_free(kept->session.data);
+    memset(kept, 0, sizeof *kept);
+}
+
 size_t peer_write(struct peer *peer, uint8_t *datagram, size_t room)
 {
-    ngtcp2_ssize length = ngtcp2_conn_write_pkt(peer->connection, NULL, NULL, datagram, room, now());
+    ngtcp2_ssize taken = 0;
+    ngtcp2_ssize length =
+        ngtcp2_conn_write_stream(peer->connection, NULL, NULL, datagram, room, &taken, NGTCP2_WRITE_STREAM_FLAG_NONE,
+                                 peer->stream, peer->unsent, peer->unsent_length, now());
+    if (taken > 0) {
+        peer->unsent += taken;
+        peer->unsent_length -= (size_t)taken;
+    }
+    if (peer->unsent_length == 0)
+        peer->stream = NO_STREAM;
     return length > 0 ? (size_t)length : 0;
 }
 
@@ -237,9 +250,6 @@ void peer_end(struct peer *peer)
 {
     if (peer->connection != NULL)
         ngtcp2_conn_del(peer->connection);
-    if (peer->session != NULL)
-        gnutls_deinit(peer->session);
-    if (peer->credentials != NULL)
-        gnutls_certificate_free_credentials(peer->credentials);
+    tls_end(peer);
     memset(peer, 0, sizeof *peer);
 }

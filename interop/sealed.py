@@ -10,8 +10,11 @@ import frames
 VERSION_1 = 0x00000001
 VERSION_2_DRAFT = 0x709A50C4
 NAMES = {VERSION_1: "version 1", VERSION_2_DRAFT: "version 2 draft"}
-INITIAL = {VERSION_1: 0, VERSION_2_DRAFT: 1}
-RETRY = {VERSION_1: 3, VERSION_2_DRAFT: 0}
+# RFC 9000 section 17.2 and section 3.2 of the draft
+TYPES = {
+    VERSION_1: {"Initial": 0, "0-RTT": 1, "Handshake": 2, "Retry": 3},
+    VERSION_2_DRAFT: {"Initial": 1, "0-RTT": 2, "Handshake": 3, "Retry": 0},
+}
 TAG = 16
 # a client's datagram with an Initial must not be smaller (RFC 9000 section 14.1)
 DATAGRAM = 1200
@@ -122,7 +125,7 @@ class Initial:
         """tshark's fields of the header, the number and the frames."""
         fields = {
             "quic.version": [f"0x{self.version:08x}"],
-            type_field(self.version): [str(INITIAL[self.version])],
+            type_field(self.version): [str(TYPES[self.version]["Initial"])],
             "quic.dcil": [str(len(self.destination))],
             "quic.scil": [str(len(self.source))],
             "quic.token_length": [str(len(self.token))],
@@ -167,45 +170,54 @@ class Retry:
 
 @dataclasses.dataclass
 class Relayed:
-    """A line of exchange.c's record: a datagram, and what the library opened in it."""
+    """A packet of exchange.c's record, and what the library opened in it, which is nothing in a Retry."""
 
-    sender: str
     kind: str
-    datagram: bytes
-    payload: bytes
-    number: str
-    length: str
+    number: str = ""
+    length: str = ""
+    payload: str = ""
 
-    def words(self):
-        return "Retry" if self.kind == "retry" else f"{self.sender}'s Initial {self.number}"
-
-    def faults(self, version, found):
-        if self.kind == "retry":
+    def faults(self, version, found, place):
+        """`found` is the packet at this place of its datagram, by tshark."""
+        if self.kind == "Retry":
             return verified_faults(version, found)
         expected = {
+            type_field(version): [str(TYPES[version][self.kind])],
             "quic.packet_number": [self.number],
             "quic.packet_number_length": [str(int(self.length) - 1)],
         }
         faults = differences(expected, found.shown)
-        if found.decrypted[:1] != [self.payload]:
+        if found.decrypted[place : place + 1] != [bytes.fromhex(self.payload)]:
             faults.append("the decrypted payload is another")
         return faults
+
+
+@dataclasses.dataclass
+class Line:
+    """A line of exchange.c's record: a datagram and its packets with long headers."""
+
+    sender: str
+    datagram: bytes
+    packets: list
+
+    def words(self, place):
+        return f"{self.sender}'s {self.packets[place].kind} {self.packets[place].number}".strip()
 
 
 def read_record(path):
     """The record's lines by their flows."""
     flows = {}
     for line in path.read_text().splitlines():
-        flow, sender, kind, datagram, payload, number, length = line.split()
-        payload = b"" if payload == "-" else bytes.fromhex(payload)
-        flows.setdefault(flow, []).append(Relayed(sender, kind, bytes.fromhex(datagram), payload, number, length))
+        flow, sender, datagram, *packets = line.split()
+        packets = [Relayed(*packet.split(":")) for packet in packets]
+        flows.setdefault(flow, []).append(Line(sender, bytes.fromhex(datagram), packets))
     return flows
 
 
 def verified_faults(version, found):
     expected = {
         "quic.version": [f"0x{version:08x}"],
-        type_field(version): [str(RETRY[version])],
+        type_field(version): [str(TYPES[version]["Retry"])],
         "quic.bad_retry": [],
     }
     faults = differences(expected, found.shown)
@@ -219,9 +231,9 @@ def unverified_faults(found):
     return ["its tag is verified"] * verified + ["tshark does not object"] * (not found.words("quic.bad_retry"))
 
 
-def undecrypted_faults(found):
-    """tshark must say that it failed to decrypt, and show no frame."""
-    decrypted = bool(found.decrypted or found.shown("quic.frame_type"))
+def undecrypted_faults(found, others=()):
+    """tshark must say that it failed to decrypt, show no frame, and decrypt no more than the others in the datagram."""
+    decrypted = found.decrypted != [*others] or bool(found.shown("quic.frame_type"))
     return ["it is decrypted"] * decrypted + ["tshark does not object"] * (not found.words("quic.decryption_failed"))
 
 
