@@ -120,6 +120,11 @@ def dissect_all(path, datagrams, *arguments):
     return [[Dissected(fields, parts) for fields in many] for many, parts in zip(packets, decrypted)]
 
 
-def dissect(path, datagrams):
+def dissect(path, datagrams, *arguments):
     """The first QUIC packet of each datagram, without fields where tshark sees none."""
-    return [[*packets, Dissected({}, [])][0] for packets in dissect_all(path, datagrams)]
+    return [[*packets, Dissected({}, [])][0] for packets in dissect_all(path, datagrams, *arguments)]
+
+
+def with_secrets(path):
+    """The argument by which tshark is given a key log."""
+    return "-o", f"tls.keylog_file:{path}"

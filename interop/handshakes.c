@@ -30,8 +30,6 @@ struct meeting {
     struct damage damages[LEVELS][SENDERS]; /* of the first packet that its receiver could read on its own */
 };
 
-static const char *const sender_names[SENDERS] = {"client", "server"};
-
 static enum sender other_than(enum sender sender)
 {
     return sender == CLIENT ? SERVER : CLIENT;

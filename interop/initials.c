@@ -74,6 +74,8 @@ static int seal_answer(const struct knock *knock, uint64_t number, size_t number
     header.token.length = 0;
     header.number = number;
     header.number_length = number_length;
+    header.any_acknowledged = 0;
+    header.acknowledged = 0;
     return keys_of(knock, SERVER, keys) && seal_packet(keys, &header, payload, datagram) == 0;
 }
 

@@ -1,13 +1,14 @@
 /*
  * The library's calls, one request to a line of the input, and a line for each answer.
  *
- *     initial VERSION ID SENDER NUMBER ACKNOWLEDGED LENGTH DESTINATION SOURCE TOKEN PAYLOAD
+ *     seal VERSION LEVEL FROM SENDER NUMBER ACKNOWLEDGED LENGTH DESTINATION SOURCE TOKEN PAYLOAD
+ *     open VERSION LEVEL FROM SENDER DATAGRAM
  *     retry VERSION ORIGINAL DESTINATION SOURCE TOKEN LOW-BITS
- *     open VERSION ID SENDER DATAGRAM
  *
- * Numbers are decimal, ACKNOWLEDGED may be "none"; IDs, token, payload and datagram are hex, "-" for nothing; ID is the
- * one that the keys are made from; SENDER is client or server. The answers are the packet, or for one that is opened
- * "opened DESTINATION SOURCE TOKEN NUMBER LENGTH PAYLOAD", or "refused" and the refusal's number.
+ * Numbers are decimal, ACKNOWLEDGED may be "none"; IDs, token, payload and datagram are hex, "-" for nothing. LEVEL is
+ * Initial, 0-RTT or Handshake; FROM is what the keys are made from, an ID for Initials and a secret for the others; SENDER
+ * is client or server. The answers are the packet, or for one that is opened "opened LEVEL DESTINATION SOURCE TOKEN NUMBER
+ * LENGTH PAYLOAD", or "refused" and the refusal's number.
  */
 #include "hex.h"
 #include "packets.h"
@@ -76,31 +77,51 @@ static void answer(uint32_t refusal, const struct bytes *packet)
     putchar('\n');
 }
 
-static uint32_t next_sender(void)
+/* The place of the next word among these names. */
+static uint32_t next_among(const char *const *names, uint32_t count)
 {
-    return strcmp(next_word(), "server") == 0 ? SERVER : CLIENT;
+    const char *word = next_word();
+    uint32_t i;
+    for (i = 0; i < count; i++)
+        if (strcmp(word, names[i]) == 0)
+            return i;
+    stop("neither a level nor a sender");
+    return count;
 }
 
-static void seal_initial(void)
+/* Keys of the next version, level, origin and sender; answers 0 or the refusal. */
+static uint32_t next_keys(uint32_t *level, uint8_t keys[DW_KEYS_SIZE])
 {
-    uint32_t version = (uint32_t)next_number();
-    struct bytes id = next_bytes();
-    uint32_t sender = next_sender();
-    uint64_t number = next_number();
-    const char *acknowledged = next_word();
-    uint32_t any = strcmp(acknowledged, "none") != 0;
-    uint64_t greatest = any ? strtoumax(acknowledged, NULL, 10) : 0;
-    size_t length = (size_t)next_number();
-    struct bytes destination = next_bytes(), source = next_bytes(), token = next_bytes(), payload = next_bytes();
-    struct bytes packet;
+    uint32_t version = (uint32_t)next_number(), sender;
+    struct bytes from;
+    *level = next_among(level_names, LEVELS);
+    from = next_bytes();
+    sender = next_among(sender_names, SENDERS);
+    if (*level == DW_LEVEL_INITIAL)
+        return dw_initial_keys(version, from.at, from.length, sender, keys);
+    if (from.length != DW_SECRET_SIZE)
+        stop("not a secret");
+    return dw_install_keys(version, *level, sender, from.at, keys);
+}
+
+static void seal_next(void)
+{
+    struct header header;
+    struct bytes payload, packet;
     uint8_t keys[DW_KEYS_SIZE];
-    uint64_t report[DW_SEALED_REPORT] = {0};
-    uint32_t refusal = dw_initial_keys(version, id.at, id.length, sender, keys);
+    uint32_t refusal = next_keys(&header.level, keys);
+    const char *acknowledged;
+    header.number = next_number();
+    acknowledged = next_word();
+    header.any_acknowledged = strcmp(acknowledged, "none") != 0;
+    header.acknowledged = header.any_acknowledged ? strtoumax(acknowledged, NULL, 10) : 0;
+    header.number_length = (size_t)next_number();
+    header.destination = next_bytes();
+    header.source = next_bytes();
+    header.token = next_bytes();
+    payload = next_bytes();
     if (refusal == DW_OK)
-        refusal = dw_seal(keys, number, any, greatest, length, destination.at, destination.length, source.at,
-                          source.length, token.at, token.length, payload.at, payload.length, packet.at,
-                          sizeof packet.at, report);
-    packet.length = (size_t)report[DW_SEALED_LEN];
+        refusal = seal_packet(keys, &header, &payload, &packet);
     answer(refusal, &packet);
 }
 
@@ -118,34 +139,35 @@ static void write_retry(void)
     answer(refusal, &packet);
 }
 
-static void open_initial(void)
+static void print_opened(const struct header *header, const struct opened *opened)
 {
-    uint32_t version = (uint32_t)next_number();
-    struct bytes id = next_bytes();
-    uint32_t sender = next_sender();
-    struct bytes datagram = next_bytes();
+    printf("opened %s ", level_names[header->level]);
+    print_bytes(header->destination.at, header->destination.length);
+    putchar(' ');
+    print_bytes(header->source.at, header->source.length);
+    putchar(' ');
+    print_bytes(header->token.at, header->token.length);
+    printf(" %" PRIu64 " %" PRIu64 " ", opened->number, opened->number_length);
+    print_bytes(payload_of(opened), (size_t)opened->payload_length);
+    putchar('\n');
+}
+
+static void open_next(void)
+{
     struct header header;
     struct opened opened;
     uint8_t keys[DW_KEYS_SIZE];
     uint64_t expected = 0;
-    uint32_t refusal = dw_initial_keys(version, id.at, id.length, sender, keys);
+    uint32_t level, refusal = next_keys(&level, keys);
+    struct bytes datagram = next_bytes();
     if (refusal == DW_OK)
         refusal = open_packet(keys, &expected, &datagram, &opened);
     if (refusal == DW_OK)
         refusal = read_header(&datagram, &header);
-    if (refusal != DW_OK) {
+    if (refusal == DW_OK && header.level < LEVELS)
+        print_opened(&header, &opened);
+    else
         printf("refused %" PRIu32 "\n", refusal);
-        return;
-    }
-    printf("opened ");
-    print_bytes(header.destination.at, header.destination.length);
-    putchar(' ');
-    print_bytes(header.source.at, header.source.length);
-    putchar(' ');
-    print_bytes(header.token.at, header.token.length);
-    printf(" %" PRIu64 " %" PRIu64 " ", opened.number, opened.number_length);
-    print_bytes(payload_of(&opened), (size_t)opened.payload_length);
-    putchar('\n');
 }
 
 int main(void)
@@ -153,14 +175,14 @@ int main(void)
     static char line[LONGEST_LINE];
     while (fgets(line, sizeof line, stdin) != NULL) {
         const char *word = strtok(line, " \n");
-        if (word != NULL && strcmp(word, "initial") == 0)
-            seal_initial();
+        if (word != NULL && strcmp(word, "seal") == 0)
+            seal_next();
+        else if (word != NULL && strcmp(word, "open") == 0)
+            open_next();
         else if (word != NULL && strcmp(word, "retry") == 0)
             write_retry();
-        else if (word != NULL && strcmp(word, "open") == 0)
-            open_initial();
         else
-            stop("neither initial nor retry nor open");
+            stop("neither seal nor open nor retry");
     }
     return 0;
 }

@@ -7,6 +7,9 @@
 #define FRAME_CRYPTO 0x06
 #define CLIENT_HELLO 0x01
 
+const char *const level_names[LEVELS] = {"Initial", "0-RTT", "Handshake"};
+const char *const sender_names[SENDERS] = {"client", "server"};
+
 struct bytes bytes_of(const void *at, size_t length)
 {
     struct bytes made;
@@ -89,7 +92,6 @@ uint32_t open_packet(const uint8_t keys[DW_KEYS_SIZE], uint64_t *expected, const
     return answer;
 }
 
-/* Nothing counts as acknowledged: the numbers here are small, so that every length from 1 to 4 covers them. */
 uint32_t seal_packet(const uint8_t keys[DW_KEYS_SIZE], const struct header *header, const struct bytes *payload,
                      struct bytes *datagram)
 {
@@ -97,13 +99,13 @@ uint32_t seal_packet(const uint8_t keys[DW_KEYS_SIZE], const struct header *head
     const struct bytes *destination = &header->destination, *source = &header->source, *token = &header->token;
     uint32_t answer;
     if (header->level == DW_LEVEL_INITIAL)
-        answer = dw_seal(keys, header->number, 0, 0, header->number_length, destination->at, destination->length,
-                         source->at, source->length, token->at, token->length, payload->at, payload->length,
-                         datagram->at, sizeof datagram->at, report);
+        answer = dw_seal(keys, header->number, header->any_acknowledged, header->acknowledged, header->number_length,
+                         destination->at, destination->length, source->at, source->length, token->at, token->length,
+                         payload->at, payload->length, datagram->at, sizeof datagram->at, report);
     else
-        answer = dw_seal_long(keys, header->number, 0, 0, header->number_length, destination->at, destination->length,
-                              source->at, source->length, payload->at, payload->length, datagram->at,
-                              sizeof datagram->at, report);
+        answer = dw_seal_long(keys, header->number, header->any_acknowledged, header->acknowledged,
+                              header->number_length, destination->at, destination->length, source->at, source->length,
+                              payload->at, payload->length, datagram->at, sizeof datagram->at, report);
     datagram->length = (size_t)report[DW_SEALED_LEN];
     return answer;
 }
@@ -123,6 +125,8 @@ static void take_fields(const struct bytes *datagram, const uint64_t *destinatio
     header->token = part(datagram, token);
     header->number = 0;
     header->number_length = 0;
+    header->any_acknowledged = 0;
+    header->acknowledged = 0;
 }
 
 uint32_t read_header(const struct bytes *datagram, struct header *header)

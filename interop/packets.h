@@ -10,7 +10,12 @@
 #include <stdint.h>
 
 /* Senders, as dw_initial_keys takes them. */
-enum sender { CLIENT = 0, SERVER = 1 };
+enum sender { CLIENT = 0, SERVER = 1, SENDERS };
+
+/* The names of levels and senders, as DW_LEVEL_ and enum sender count them. */
+enum { LEVELS = 3 };
+extern const char *const level_names[LEVELS];
+extern const char *const sender_names[SENDERS];
 
 struct bytes {
     uint8_t at[DW_LIMIT];
@@ -26,6 +31,8 @@ struct header {
     struct bytes token;
     uint64_t number;
     size_t number_length;
+    uint32_t any_acknowledged; /* whether anything is, and the greatest number that is */
+    uint64_t acknowledged;
 };
 
 /* What dw_open reports, with the plain header and payload that it wrote. */
@@ -68,7 +75,7 @@ uint32_t open_packet(const uint8_t keys[DW_KEYS_SIZE], uint64_t *expected, const
 /* Sealing is dw_seal for a header of the Initial level and dw_seal_long for others. */
 uint32_t seal_packet(const uint8_t keys[DW_KEYS_SIZE], const struct header *header, const struct bytes *payload,
                      struct bytes *datagram);
-/* The number stays covered by header protection, and a Retry has none: it is set to 0, and its length too. */
+/* The number stays covered by header protection, and a Retry has none: all that is said of it is 0. */
 uint32_t read_header(const struct bytes *datagram, struct header *header);
 uint32_t check_retry(const struct bytes *original, const struct bytes *datagram, struct header *header);
 uint32_t make_retry(const struct bytes *original, const struct header *header, uint64_t low_bits,

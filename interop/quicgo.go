@@ -1,13 +1,12 @@
-// Opens and seals Initial packets with quic-go's own code and gives its tag of a Retry: one request to a line of the
-// input, and a line for each answer.
+// Opens and seals packets with long headers by quic-go's own code and gives its tag of a Retry: one request to a line of
+// the input, and a line for each answer.
 //
-//	open VERSION ID SENDER DATAGRAM
-//	seal VERSION ID SENDER NUMBER LENGTH DESTINATION SOURCE TOKEN PAYLOAD
+//	open VERSION LEVEL FROM SENDER DATAGRAM
+//	seal VERSION LEVEL FROM SENDER NUMBER ACKNOWLEDGED LENGTH DESTINATION SOURCE TOKEN PAYLOAD
 //	tag VERSION ORIGINAL RETRY
 //
-// Numbers are decimal; IDs, token, payload and packets are hex, "-" for nothing; ID is the one that the keys are made from;
-// SENDER is client or server, and RETRY ends before its tag. The answers are "opened DESTINATION SOURCE TOKEN NUMBER
-// LENGTH PAYLOAD", or "dropped" with quic-go's reason; a packet; a tag.
+// The words are those of library.c; ACKNOWLEDGED isn't looked at, and RETRY ends before its tag. The answers are library.c's
+// too, but "dropped" with quic-go's reason where a packet isn't opened, and a tag.
 //
 // quic-go keeps these parts to itself. So this file is built as if it stood in quic-go's own tree: quicgo.py.
 package main
@@ -65,12 +64,39 @@ func (r *request) version() protocol.VersionNumber {
 	return protocol.VersionNumber(r.number())
 }
 
-// The two sides, the sender first.
-func (r *request) sides() (protocol.Perspective, protocol.Perspective) {
+// The levels by their names.
+var levels = map[string]protocol.PacketType{
+	"Initial":   protocol.PacketTypeInitial,
+	"0-RTT":     protocol.PacketType0RTT,
+	"Handshake": protocol.PacketTypeHandshake,
+}
+
+// One sender's protection at one level.
+type protection struct {
+	version protocol.VersionNumber
+	name    string
+	level   protocol.PacketType
+	sealer  handshake.LongHeaderSealer
+	opener  handshake.LongHeaderOpener
+}
+
+// An Initial's sealer is of the sender's side, and its opener of the receiver's.
+func (r *request) protection() (p protection) {
+	p.version = r.version()
+	p.name = r.word()
+	p.level = levels[p.name]
+	from := r.bytes()
+	sender, receiver := protocol.PerspectiveClient, protocol.PerspectiveServer
 	if r.word() == "server" {
-		return protocol.PerspectiveServer, protocol.PerspectiveClient
+		sender, receiver = receiver, sender
 	}
-	return protocol.PerspectiveClient, protocol.PerspectiveServer
+	if p.level != protocol.PacketTypeInitial {
+		p.sealer, p.opener = handshake.NewSecretAEAD(from, p.version)
+		return p
+	}
+	p.sealer, _ = handshake.NewInitialAEAD(from, sender, p.version)
+	_, p.opener = handshake.NewInitialAEAD(from, receiver, p.version)
+	return p
 }
 
 func stop(err error) {
@@ -108,44 +134,41 @@ func opened(opener handshake.LongHeaderOpener, header *wire.Header, packet []byt
 }
 
 func open(r *request) string {
-	version, id := r.version(), r.bytes()
-	_, receiver := r.sides()
+	keys := r.protection()
 	header, packet, _, err := wire.ParsePacket(r.bytes(), 0)
 	if err != nil {
 		return "dropped " + err.Error()
 	}
-	if header.Type != protocol.PacketTypeInitial || header.Version != version {
+	if header.Type != keys.level || header.Version != keys.version {
 		return "dropped as another packet"
 	}
-	_, opener := handshake.NewInitialAEAD(id, receiver, version)
-	extended, payload, err := opened(opener, header, packet)
+	extended, payload, err := opened(keys.opener, header, packet)
 	if err != nil {
 		return "dropped " + err.Error()
 	}
 	parts := []string{word(extended.DestConnectionID), word(extended.SrcConnectionID), word(extended.Token)}
-	return fmt.Sprintf("opened %s %d %d %s", strings.Join(parts, " "), extended.PacketNumber, extended.PacketNumberLen,
-		word(payload))
+	return fmt.Sprintf("opened %s %s %d %d %s", keys.name, strings.Join(parts, " "), extended.PacketNumber,
+		extended.PacketNumberLen, word(payload))
 }
 
 func seal(r *request) string {
-	version, id := r.version(), r.bytes()
-	sender, _ := r.sides()
+	keys := r.protection()
 	var header wire.ExtendedHeader
 	header.PacketNumber = protocol.PacketNumber(r.number())
+	_ = r.word()
 	header.PacketNumberLen = protocol.PacketNumberLen(r.number())
 	header.IsLongHeader = true
-	header.Type = protocol.PacketTypeInitial
-	header.Version = version
+	header.Type = keys.level
+	header.Version = keys.version
 	header.DestConnectionID, header.SrcConnectionID, header.Token = r.bytes(), r.bytes(), r.bytes()
 	payload := r.bytes()
-	sealer, _ := handshake.NewInitialAEAD(id, sender, version)
-	header.Length = protocol.ByteCount(int(header.PacketNumberLen) + len(payload) + sealer.Overhead())
+	header.Length = protocol.ByteCount(int(header.PacketNumberLen) + len(payload) + keys.sealer.Overhead())
 	var plain bytes.Buffer
-	stop(header.Write(&plain, version))
+	stop(header.Write(&plain, keys.version))
 	associated := plain.Bytes()
-	packet := append(append([]byte{}, associated...), sealer.Seal(nil, payload, header.PacketNumber, associated)...)
+	packet := append(append([]byte{}, associated...), keys.sealer.Seal(nil, payload, header.PacketNumber, associated)...)
 	at := len(associated) - int(header.PacketNumberLen)
-	sealer.EncryptHeader(packet[at+sampleOffset:at+sampleEnd], &packet[0], packet[at:len(associated)])
+	keys.sealer.EncryptHeader(packet[at+sampleOffset:at+sampleEnd], &packet[0], packet[at:len(associated)])
 	return word(packet)
 }
 

@@ -1,4 +1,4 @@
-"""quic-go, where it is installed: found, and built with quicgo.go in its tree."""
+"""quic-go, where it is installed: found, and built with quicgo.go and quicgo_secret.go in its tree."""
 
 import json
 import os
@@ -36,12 +36,16 @@ def version():
     return run.stdout if run and run.returncode == 0 else "of unknown version"
 
 
-def build(source, work):
-    """Go lets only quic-go's own tree use its inner packages: an overlay puts our program there, and copies nothing."""
+def build(here, work):
+    """Go lets only quic-go's own tree use its inner packages: an overlay puts our files there, and copies nothing."""
     place = workspace()
     overlay, program = work / "overlay.json", work / "quicgo"
-    stands_at = pathlib.Path(place) / "src" / IMPORT / "driftwicket" / "main.go"
-    overlay.write_text(json.dumps({"Replace": {str(stands_at): str(source)}}))
+    tree = pathlib.Path(place) / "src" / IMPORT
+    files = {
+        tree / "driftwicket" / "main.go": here / "quicgo.go",
+        tree / "internal" / "handshake" / "driftwicket.go": here / "quicgo_secret.go",
+    }
+    overlay.write_text(json.dumps({"Replace": {str(at): str(source) for at, source in files.items()}}))
     settings = {"GO111MODULE": "off", "GOPATH": place, "GOFLAGS": "", "GOCACHE": str(work / "go")}
     command = ["go", "build", "-overlay", str(overlay), "-o", str(program), f"{IMPORT}/driftwicket"]
     if subprocess.run(command, env=dict(os.environ, **settings), check=False).returncode != 0:

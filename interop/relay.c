@@ -7,8 +7,6 @@
 /* Where the level stands in a key record. */
 #define LEVEL_AT 4
 
-const char *const level_names[LEVELS] = {"Initial", "0-RTT", "Handshake"};
-
 /* How ngtcp2 counts the levels' types. */
 static const uint8_t types[LEVELS] = {NGTCP2_PKT_INITIAL, NGTCP2_PKT_0RTT, NGTCP2_PKT_HANDSHAKE};
 
@@ -47,24 +45,33 @@ void relay_learns(struct relay *relay, const struct peer *peer)
                                 relay->keys[uses[i].level][uses[i].sender]) == DW_OK;
 }
 
-/* Whether ngtcp2 finds the same level, IDs, token and Length in this header; a token that isn't there has no place. */
-static int read_alike(const struct bytes *datagram)
+/* Whether these bytes stand where a report names a place and behind that a length. */
+static int stands_at(const struct bytes *datagram, const uint64_t *place, const uint8_t *bytes, size_t length)
+{
+    return same(datagram->at + place[0], (size_t)place[1], bytes, length);
+}
+
+/*
+ * Where the packet ends, if ngtcp2 finds the same level, IDs, token and Length in its header, and 0 if not. A token that
+ * isn't there has no place.
+ */
+static size_t agreed_end(const struct bytes *datagram)
 {
     ngtcp2_pkt_hd found;
     uint64_t report[DW_HEADER_REPORT];
-    const uint8_t *at = datagram->at;
-    ngtcp2_ssize end = ngtcp2_pkt_decode_hd_long(&found, at, datagram->length);
-    if (end < 0 || dw_read_header(at, datagram->length, report) != DW_OK || report[DW_HEADER_LEVEL] >= LEVELS)
+    ngtcp2_ssize number_at = ngtcp2_pkt_decode_hd_long(&found, datagram->at, datagram->length);
+    uint32_t answer = dw_read_header(datagram->at, datagram->length, report);
+    if (number_at < 0 || answer != DW_OK || report[DW_HEADER_LEVEL] >= LEVELS)
         return 0;
-    return found.type == types[report[DW_HEADER_LEVEL]] && found.version == report[DW_HEADER_VERSION] &&
-           same(at + report[DW_HEADER_DESTINATION_AT], (size_t)report[DW_HEADER_DESTINATION_LEN], found.dcid.data,
-                found.dcid.datalen) &&
-           same(at + report[DW_HEADER_SOURCE_AT], (size_t)report[DW_HEADER_SOURCE_LEN], found.scid.data,
-                found.scid.datalen) &&
-           same(at + report[DW_HEADER_TOKEN_AT], (size_t)report[DW_HEADER_TOKEN_LEN], found.token.base,
-                found.token.len) &&
-           (report[DW_HEADER_LEVEL] == DW_LEVEL_INITIAL) == (report[DW_HEADER_TOKEN_AT] != 0) &&
-           report[DW_HEADER_LENGTH] == found.len && report[DW_HEADER_NUMBER_AT] == (uint64_t)end;
+    if (found.type != types[report[DW_HEADER_LEVEL]] || found.version != report[DW_HEADER_VERSION] ||
+        !stands_at(datagram, report + DW_HEADER_DESTINATION_AT, found.dcid.data, found.dcid.datalen) ||
+        !stands_at(datagram, report + DW_HEADER_SOURCE_AT, found.scid.data, found.scid.datalen) ||
+        !stands_at(datagram, report + DW_HEADER_TOKEN_AT, found.token.base, found.token.len))
+        return 0;
+    if ((report[DW_HEADER_LEVEL] == DW_LEVEL_INITIAL) != (report[DW_HEADER_TOKEN_AT] != 0) ||
+        report[DW_HEADER_NUMBER_AT] != (uint64_t)number_at || report[DW_HEADER_LENGTH] != found.len)
+        return 0;
+    return (size_t)number_at + found.len;
 }
 
 /* Keys that differ in their level alone are of another type: 6. One number more is tried, which names no such level. */
@@ -144,6 +151,7 @@ static int carry(struct relay *relay, enum sender sender, const struct bytes *re
     const uint8_t *keys;
     struct tally *tally;
     uint64_t expected;
+    size_t end = agreed_end(rest);
     if (read_header(rest, &packet->header) == DW_OK)
         level = packet->header.level;
     if (level >= LEVELS || !relay->known[level][sender])
@@ -153,10 +161,11 @@ static int carry(struct relay *relay, enum sender sender, const struct bytes *re
     tally = &relay->tallies[level][sender];
     tally->seen++;
     relay->seen++;
-    tally->read += (unsigned)read_alike(rest);
-    if (open_packet(keys, &relay->expected[level][sender], rest, &packet->opened) != DW_OK)
+    tally->read += end > 0;
+    if (open_packet(keys, &relay->expected[level][sender], rest, &packet->opened) != DW_OK ||
+        packet->opened.used != end)
         return 0;
-    packet->written = bytes_of(rest->at, (size_t)packet->opened.used);
+    packet->written = bytes_of(rest->at, end);
     if (!seal_anew(relay, keys, expected, packet))
         return 0;
     tally->carried++;
@@ -175,7 +184,7 @@ static int take_apart(struct relay *relay, enum sender sender, const struct byte
         if (parts->count == MOST_PACKETS || !carry(relay, sender, &parts->rest, packet))
             return 0;
         parts->count++;
-        parts->rest = bytes_of(parts->rest.at + packet->opened.used, parts->rest.length - packet->written.length);
+        parts->rest = bytes_of(parts->rest.at + packet->written.length, parts->rest.length - packet->written.length);
     }
     return 1;
 }
@@ -194,7 +203,7 @@ static struct bytes put_together(const struct parts *parts)
 /* The start of a line of the record, which exchange.c describes. */
 static void note_datagram(FILE *record, const char *flow, enum sender sender, const struct bytes *datagram)
 {
-    fprintf(record, "%s %s ", flow, sender == CLIENT ? "client" : "server");
+    fprintf(record, "%s %s ", flow, sender_names[sender]);
     write_hex(record, datagram->at, datagram->length);
 }
 

@@ -9,7 +9,7 @@
 
 #include <stdio.h>
 
-enum { LEVELS = 3, SENDERS = 2, MOST_PACKETS = 4 };
+enum { MOST_PACKETS = 4 };
 
 /* A packet with a long header on its way. */
 struct carried {
@@ -47,9 +47,6 @@ struct relay {
     unsigned seen; /* packets with long headers, of all levels and senders */
     unsigned lost; /* datagrams that were not taken apart to the end, and passed as they came */
 };
-
-/* The levels' names, as DW_LEVEL_ counts them. */
-extern const char *const level_names[LEVELS];
 
 struct relay relay_of(uint32_t version, const char *kind, FILE *record);
 

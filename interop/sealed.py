@@ -16,6 +16,12 @@ TYPES = {
     VERSION_2_DRAFT: {"Initial": 1, "0-RTT": 2, "Handshake": 3, "Retry": 0},
 }
 TAG = 16
+# any bytes will do, by the names that a key log has for them
+SECRETS = {
+    "CLIENT_EARLY_TRAFFIC_SECRET": bytes(range(0x20, 0x40)),
+    "CLIENT_HANDSHAKE_TRAFFIC_SECRET": bytes(range(0x60, 0x80)),
+    "SERVER_HANDSHAKE_TRAFFIC_SECRET": bytes(range(0xC0, 0xE0)),
+}
 # a client's datagram with an Initial must not be smaller (RFC 9000 section 14.1)
 DATAGRAM = 1200
 # the name that the client of exchange.c asks for
@@ -47,11 +53,12 @@ def flipped(packet, place):
 
 
 @dataclasses.dataclass
-class Initial:
-    """An Initial; a frame is its bytes and the fields that tshark shows of it."""
+class Packet:
+    """An Initial, 0-RTT or Handshake packet; a frame is its bytes and the fields that tshark shows of it."""
 
     version: int
-    keys_id: bytes
+    level: str
+    keys_from: bytes
     sender: str
     number: int
     acknowledged: typing.Optional[int]
@@ -69,13 +76,13 @@ class Initial:
 
     def words(self):
         token = f", token of {len(self.token)}" if self.token else ""
-        return f"{self.sender} Initial, number {self.number} in {self.length} bytes{token}"
+        return f"{self.sender} {self.level}, number {self.number} in {self.length} bytes{token}"
 
     def payload(self):
         return b"".join(data for data, _ in self.frames)
 
     def number_at(self):
-        token = frames.integer(len(self.token)) + self.token
+        token = frames.integer(len(self.token)) + self.token if self.level == "Initial" else b""
         return 7 + len(self.destination) + len(self.source) + len(token) + 2
 
     def size(self):
@@ -91,44 +98,43 @@ class Initial:
 
     def after(self, retry):
         """The Initial that answers a Retry: the same frames, under its ID and with its token."""
-        made = self.but(keys_id=retry.source, destination=retry.source, token=retry.token, number=1)
+        made = self.but(keys_from=retry.source, destination=retry.source, token=retry.token, number=1)
         return made.but(frames=self.frames[:-1]).padded()
 
     def with_other_keys(self):
+        if self.level != "Initial":
+            return {"sealed with another secret": self.but(keys_from=pattern(0x77, len(self.keys_from)))}
         return {
             "sealed with the server's keys": self.but(sender="server"),
-            "sealed with keys from another ID": self.but(keys_id=pattern(0x77, 8)),
+            "sealed with keys from another ID": self.but(keys_from=pattern(0x77, 8)),
         }
+
+    def keys(self):
+        """How library.c and quicgo.go are told them."""
+        return f"{self.version} {self.level} {hexed(self.keys_from)} {self.sender}"
 
     def request(self):
         acknowledged = "none" if self.acknowledged is None else self.acknowledged
-        keys = f"{self.version} {hexed(self.keys_id)} {self.sender}"
         parts = hexed(self.destination, self.source, self.token, self.payload())
-        return f"initial {keys} {self.number} {acknowledged} {self.length} {parts}"
-
-    def sealing(self):
-        """The request by which quicgo.go seals it."""
-        keys = f"{self.version} {hexed(self.keys_id)} {self.sender}"
-        parts = hexed(self.destination, self.source, self.token, self.payload())
-        return f"seal {keys} {self.number} {self.length} {parts}"
+        return f"seal {self.keys()} {self.number} {acknowledged} {self.length} {parts}"
 
     def opening(self, packet):
-        """The request by which library.c and quicgo.go open a packet as this one."""
-        return f"open {self.version} {hexed(self.keys_id)} {self.sender} {hexed(packet)}"
+        """The request by which a packet is opened as this one."""
+        return f"open {self.keys()} {hexed(packet)}"
 
     def opened(self):
-        """What both answer where it opens."""
+        """The answer where it opens."""
         parts = hexed(self.destination, self.source, self.token)
-        return f"opened {parts} {self.number} {self.length} {hexed(self.payload())}"
+        return f"opened {self.level} {parts} {self.number} {self.length} {hexed(self.payload())}"
 
     def fields(self):
         """tshark's fields of the header, the number and the frames."""
         fields = {
             "quic.version": [f"0x{self.version:08x}"],
-            type_field(self.version): [str(TYPES[self.version]["Initial"])],
+            type_field(self.version): [str(TYPES[self.version][self.level])],
             "quic.dcil": [str(len(self.destination))],
             "quic.scil": [str(len(self.source))],
-            "quic.token_length": [str(len(self.token))],
+            "quic.token_length": [str(len(self.token))] if self.level == "Initial" else [],
             "quic.length": [str(self.size() - self.number_at())],
             "quic.packet_length": [str(self.size())],
             "quic.long.reserved": ["0"],
@@ -248,20 +254,53 @@ def damaged_copies(initial, packet):
     }
 
 
-def conversation(version, length, token, hellos):
-    """Two Initials of each side, numbers in `length` bytes: 0, then the farthest from it that so many bytes can tell."""
+def beginning(version, length, token, hellos):
+    """A client's Initial with its ClientHello and a server's with its ServerHello, both number 0 in `length` bytes."""
     original = pattern(0x10 * length, 8 + 4 * (length - 1))
     client, server = pattern(0xA0, 5 * length), pattern(0xB0, 20 - 5 * (length - 1))
-    far = 2 ** (8 * length - 1) - 1
-    base = Initial(version, original, "client", 0, None, length, original, client, token, [])
-    answer = base.but(sender="server", destination=client, source=server, token=b"")
+    first = Packet(version, "Initial", original, "client", 0, None, length, original, client, token, [])
+    answer = first.but(sender="server", destination=client, source=server, token=b"")
     hello = [frames.ping(), frames.crypto(hellos["client"])]
     return [
-        base.but(frames=hello).padded(),
+        first.but(frames=hello).padded(),
         answer.but(frames=[frames.acknowledgement(0), frames.crypto(hellos["server"])]),
-        base.but(number=far, acknowledged=0, destination=server, frames=[frames.acknowledgement(0)]).padded(),
-        answer.but(number=far, acknowledged=0, frames=[frames.acknowledgement(far), frames.ping(), frames.padding(4)]),
     ]
+
+
+def farthest(length):
+    """The farthest number from 0 that so many bytes can tell."""
+    return 2 ** (8 * length - 1) - 1
+
+
+def conversation(version, length, token, hellos):
+    """Two Initials of each side: number 0 in `length` bytes, and then the farthest."""
+    first, answer = beginning(version, length, token, hellos)
+    far = farthest(length)
+    again = first.but(number=far, acknowledged=0, destination=answer.source, frames=[frames.acknowledgement(0)])
+    last = [frames.acknowledgement(far), frames.ping(), frames.padding(4)]
+    return [first, answer, again.padded(), answer.but(number=far, acknowledged=0, frames=last)]
+
+
+def later(version, length, hellos):
+    """What the two send at the other levels: number 0 in `length` bytes, and then the farthest, under SECRETS."""
+    first, answer = beginning(version, length, b"", hellos)
+    early = first.but(level="0-RTT", keys_from=SECRETS["CLIENT_EARLY_TRAFFIC_SECRET"])
+    server = answer.but(level="Handshake", keys_from=SECRETS["SERVER_HANDSHAKE_TRAFFIC_SECRET"])
+    client = first.but(level="Handshake", keys_from=SECRETS["CLIENT_HANDSHAKE_TRAFFIC_SECRET"])
+    made = []
+    for number, acknowledged in ((0, None), (farthest(length), 0)):
+        numbers = {"number": number, "acknowledged": acknowledged}
+        acknowledging = [frames.acknowledgement(number), frames.ping(), frames.padding(70)]
+        made.append(early.but(**numbers, frames=[frames.ping(), frames.padding(9)]))
+        made.append(server.but(**numbers, frames=acknowledging))
+        made.append(client.but(**numbers, frames=acknowledging, destination=answer.source))
+    return made
+
+
+def key_log(hellos):
+    """SECRETS for the connection of this ClientHello, as tshark reads them; its random bytes stand behind six others."""
+    random = hellos["client"][6:38].hex()
+    return "".join(f"{label} {random} {secret.hex()}\n" for label, secret in SECRETS.items())
 
 
 def answers(program, requests):
@@ -276,7 +315,7 @@ def answers(program, requests):
 
 
 def packets(program, wanted):
-    """The library's packets for Initials and Retry packets."""
+    """The library's packets for these."""
     found = answers(program, [one.request() for one in wanted])
     refused = [answer for answer in found if answer.startswith("refused")]
     if refused:
