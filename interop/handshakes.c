@@ -4,9 +4,12 @@
 
 #include <string.h>
 
-/* The first in full, one after a Retry of the library's, and one by a ticket of the first, with early data. */
-enum kind { PLAIN, RETRIED, RESUMED };
-static const char *const kind_names[] = {"plain", "retried", "resumed"};
+/* In full, or by a ticket of the plain one, with early data; either at once or after a Retry of the library's. */
+static const struct kind {
+    const char *name;
+    int resumed;
+    int retried;
+} kinds[] = {{"plain", 0, 0}, {"retried", 0, 1}, {"resumed", 1, 0}, {"resumed-retried", 1, 1}};
 
 /* How much early data is sent: too much for the datagram that begins with the ClientHello. */
 #define EARLY_DATA 1400
@@ -167,6 +170,8 @@ static void check_server_reads(struct meeting *meeting)
 /* What the library did with the packets of a level and sender. */
 static void check_packets(const struct meeting *meeting, const char *kind, uint32_t level, enum sender sender)
 {
+    static const char *const guards[LEVELS] = {"the other side's open none, and no secret makes such keys",
+                                               "a server is given none", "the other side's open none"};
     const struct tally *tally = &meeting->relay.tallies[level][sender];
     char what[80];
     sprintf(what, "%s handshake: %u %s packets of the %s", kind, tally->seen, level_names[level],
@@ -175,8 +180,7 @@ static void check_packets(const struct meeting *meeting, const char *kind, uint3
     check(tally->seen > 0 && tally->carried == tally->seen,
           "%s: opened and sealed anew, number and payload the same", what);
     check(tally->seen > 0 && tally->guarded == tally->seen,
-          "%s: keys of another level get 6, in opening and in sealing, and %s", what,
-          level == DW_LEVEL_ZERO_RTT ? "a server is given none" : "the other side's open none");
+          "%s: keys of another level get 6, in opening and in sealing; %s", what, guards[level]);
 }
 
 static void check_damage(const struct meeting *meeting, const char *kind, uint32_t level, enum sender sender)
@@ -227,19 +231,19 @@ static void check_run(struct meeting *meeting, const char *kind)
 }
 
 /* The client's first datagram is written, and a server stands ready for it. */
-static int begin(struct meeting *meeting, enum kind kind, const struct kept *kept, const struct bytes *early)
+static int begin(struct meeting *meeting, const struct kind *kind, const struct kept *kept, const struct bytes *early)
 {
     struct peer *client = &meeting->peers[CLIENT];
     struct knock *knock = &meeting->knock;
-    int ready = kind == RESUMED ? kept->session.data != NULL && knock_resuming(client, knock, kept, early)
-                                : knock_first(client, knock);
+    int ready = kind->resumed ? kept->session.data != NULL && knock_resuming(client, knock, kept, early)
+                              : knock_first(client, knock);
     ready = ready && relay_knows(&meeting->relay, knock);
-    ready = ready && (kind != RETRIED || retry_between(meeting));
+    ready = ready && (!kind->retried || retry_between(meeting));
     return ready && answer_knock(&meeting->peers[SERVER], knock, &meeting->original);
 }
 
-/* A handshake in which every packet with a long header is opened and sealed by the library. The plain one is kept. */
-static void check_handshake(uint32_t version, enum kind kind, struct kept *kept, FILE *record)
+/* A handshake in which every packet with a long header is opened and sealed by the library. The first one is kept. */
+static void check_handshake(uint32_t version, const struct kind *kind, struct kept *kept, FILE *record)
 {
     static struct meeting meeting;
     struct bytes early = pattern(0x61, EARLY_DATA);
@@ -247,18 +251,18 @@ static void check_handshake(uint32_t version, enum kind kind, struct kept *kept,
     memset(&meeting, 0, sizeof meeting);
     meeting.knock = knock_of(version, 8, 8, 0);
     meeting.original = meeting.knock.destination;
-    meeting.relay = relay_of(version, kind_names[kind], record);
+    meeting.relay = relay_of(version, kind->name, record);
     ready = begin(&meeting, kind, kept, &early);
-    check(ready, "%s handshake: ngtcp2's client and server begin it, the library between them", kind_names[kind]);
+    check(ready, "%s handshake: ngtcp2's client and server begin it, the library between them", kind->name);
     if (ready)
-        check_run(&meeting, kind_names[kind]);
-    if (ready && kind == RESUMED)
-        check_early(&meeting, kind_names[kind], &early);
+        check_run(&meeting, kind->name);
+    if (ready && kind->resumed)
+        check_early(&meeting, kind->name, &early);
     else if (ready)
-        check_full(&meeting, kind_names[kind]);
-    if (kind == PLAIN)
+        check_full(&meeting, kind->name);
+    if (kept->session.data == NULL)
         check(ready && peer_keep(&meeting.peers[CLIENT], kept) == 0,
-              "%s handshake: ngtcp2's client has a ticket to resume by", kind_names[kind]);
+              "%s handshake: ngtcp2's client has a ticket to resume by", kind->name);
     peer_end(&meeting.peers[CLIENT]);
     peer_end(&meeting.peers[SERVER]);
 }
@@ -266,9 +270,9 @@ static void check_handshake(uint32_t version, enum kind kind, struct kept *kept,
 void check_handshakes(uint32_t version, FILE *record)
 {
     struct kept kept;
+    size_t i;
     memset(&kept, 0, sizeof kept);
-    check_handshake(version, PLAIN, &kept, record);
-    check_handshake(version, RETRIED, &kept, record);
-    check_handshake(version, RESUMED, &kept, record);
+    for (i = 0; i < sizeof kinds / sizeof *kinds; i++)
+        check_handshake(version, &kinds[i], &kept, record);
     peer_forget(&kept);
 }

@@ -98,13 +98,22 @@ static int guarded_by_side(const struct relay *relay, enum sender sender, const 
     uint32_t level = packet->header.level, answer;
     struct opened opened;
     uint64_t expected = 0;
-    static const uint8_t secret[DW_SECRET_SIZE];
-    uint8_t keys[DW_KEYS_SIZE];
     if (level == DW_LEVEL_ZERO_RTT)
-        return dw_install_keys(relay->version, level, other, secret, keys) == DW_REFUSED_TYPE;
+        return 1;
     answer = open_packet(relay->keys[level][other], &expected, &packet->written, &opened);
     return relay->known[level][other] && (answer == DW_REFUSED_RESERVED || answer == DW_REFUSED_RANGE ||
                                           answer == DW_REFUSED_TAG);
+}
+
+/* No secret makes keys for Initials, or 0-RTT keys for a server: 6. */
+static int guarded_by_install(uint32_t version, uint32_t level)
+{
+    static const uint8_t secret[DW_SECRET_SIZE];
+    uint8_t keys[DW_KEYS_SIZE];
+    if (level == DW_LEVEL_HANDSHAKE)
+        return 1;
+    return dw_install_keys(version, level, SERVER, secret, keys) == DW_REFUSED_TYPE &&
+           (level == DW_LEVEL_ZERO_RTT || dw_install_keys(version, level, CLIENT, secret, keys) == DW_REFUSED_TYPE);
 }
 
 /* Each of the two sealings refuses the other's levels with 6. */
@@ -170,7 +179,7 @@ static int carry(struct relay *relay, enum sender sender, const struct bytes *re
         return 0;
     tally->carried++;
     tally->guarded += guarded_by_level(keys, packet) && guarded_by_side(relay, sender, packet) &&
-                      guarded_by_form(keys, packet);
+                      guarded_by_form(keys, packet) && guarded_by_install(relay->version, level);
     return 1;
 }
 

@@ -38,8 +38,8 @@ struct tally {
 struct relay {
     uint32_t version;
     FILE *record;
-    char written[32]; /* names in the record: as ngtcp2 wrote ... */
-    char sealed[32];  /* ... and as the library sealed */
+    char written[48]; /* names in the record: as ngtcp2 wrote ... */
+    char sealed[48];  /* ... and as the library sealed */
     uint8_t keys[LEVELS][SENDERS][DW_KEYS_SIZE];
     int known[LEVELS][SENDERS];
     uint64_t expected[LEVELS][SENDERS];

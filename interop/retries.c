@@ -4,6 +4,8 @@
 
 #include <ngtcp2/ngtcp2_crypto.h>
 
+#define LOW_BITS 0x0d
+
 /* The library's Retry: ngtcp2 drops damaged copies; the Retry itself brings an Initial under its ID, with its token. */
 static void check_retry_obeyed(uint32_t version)
 {
@@ -20,14 +22,15 @@ static void check_retry_obeyed(uint32_t version)
     header.destination = knock.source;
     header.source = pattern(0xe0, 20);
     header.token = pattern(0x31, 77);
-    ready = ready && make_retry(&knock.destination, &header, 0x0d, &retry) == 0;
+    ready = ready && make_retry(&knock.destination, &header, LOW_BITS, &retry) == 0;
     for (place = 0; ready && place < retry.length; place++) {
         struct bytes copy = damaged(&retry, place);
         dropped += peer_read(&client, copy.at, copy.length) == 0 && client.retries == 0;
     }
     check(ready && dropped == retry.length, "ngtcp2's client drops %zu damaged copies of the library's Retry", dropped);
     ready = ready && knock_again(&client, &knock, &header, &retry);
-    check(ready, "ngtcp2's client accepts the library's Retry");
+    check(ready && (retry.at[0] & 0x0f) == LOW_BITS,
+          "ngtcp2's client accepts the library's Retry, whose low bits are those that were asked for");
     ready = ready && read_header(&knock.datagram, &found) == 0;
     check(ready && same_bytes(&found.destination, &header.source) && same_bytes(&found.token, &header.token),
           "ngtcp2's Initial after it goes to the Retry's ID and carries its token");
