@@ -30,7 +30,8 @@ static void check_first_initial(uint32_t version, size_t destination, size_t sou
     sprintf(shape, "ngtcp2's Initial, IDs of %zu and %zu bytes, token of %zu", destination, source, token);
     answer = ready ? read_header(&knock.datagram, &header) : UINT32_MAX;
     check(answer == 0 && header.version == version && header.level == DW_LEVEL_INITIAL &&
-              same_bytes(&header.destination, &knock.destination) && same_bytes(&header.source, &knock.source) && same_bytes(&header.token, &knock.token),
+              same_bytes(&header.destination, &knock.destination) && same_bytes(&header.source, &knock.source) &&
+              same_bytes(&header.token, &knock.token),
           "%s: level, version, IDs and token are read as ngtcp2 was told them", shape);
     answer = ready ? open_packet(keys, &expected, &knock.datagram, &opened) : UINT32_MAX;
     check(answer == 0 && opened.number == 0 && expected == 1 && opened.used == knock.datagram.length,
