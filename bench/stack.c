@@ -18,6 +18,8 @@ static ucontext_t outside, inside;
 static struct {
     uint32_t version;
     uint8_t keys[DW_KEYS_SIZE];
+    uint8_t secret[DW_SECRET_SIZE];
+    uint8_t handshake[DW_KEYS_SIZE];
     uint8_t id[DW_LONGEST_ID];
     uint8_t token[TOKEN];
     uint8_t payload[DW_LIMIT];
@@ -45,6 +47,15 @@ static void recover(void) { lent.answer = dw_recover(0xa82f30eb, 0x9b32, 2, lent
 
 static void initial_keys(void) { lent.answer = dw_initial_keys(lent.version, lent.id, sizeof lent.id, 1, lent.keys); }
 
+static void install_keys(void) {
+    lent.answer = dw_install_keys(lent.version, DW_LEVEL_HANDSHAKE, 1, lent.secret, lent.handshake);
+}
+
+static void seal_long(void) {
+    lent.answer = dw_seal_long(lent.handshake, 2, 0, 0, DW_LONGEST_NUMBER, lent.id, sizeof lent.id, lent.id, sizeof lent.id,
+                               lent.payload, PAYLOAD, lent.packet, sizeof lent.packet, lent.report);
+}
+
 static void seal(void) {
     lent.answer = dw_seal(lent.keys, 2, 0, 0, DW_LONGEST_NUMBER, lent.id, sizeof lent.id, lent.id, sizeof lent.id, lent.token,
                           sizeof lent.token, lent.payload, PAYLOAD, lent.packet, sizeof lent.packet, lent.report);
@@ -65,15 +76,15 @@ static void check_retry(void) {
     lent.answer = dw_check_retry(lent.id, sizeof lent.id, lent.retry, sizeof lent.retry, lent.report);
 }
 
-/* In an order in which each finds what it reads: a packet is opened after it was sealed. */
+/* In an order in which each finds what it reads: a packet is opened after it was sealed, with the same keys. */
 static const struct {
     const char *name;
     void (*call)(void);
 } calls[] = {
     {"dw_read_integer", read_integer}, {"dw_smallest_length", smallest_length}, {"dw_shorten", shorten},
-    {"dw_recover", recover},           {"dw_initial_keys", initial_keys},       {"dw_seal", seal},
-    {"dw_open", open_packet},          {"dw_read_header", read_header},         {"dw_write_retry", write_retry},
-    {"dw_check_retry", check_retry},
+    {"dw_recover", recover},           {"dw_initial_keys", initial_keys},       {"dw_install_keys", install_keys},
+    {"dw_seal_long", seal_long},       {"dw_seal", seal},                       {"dw_open", open_packet},
+    {"dw_read_header", read_header},   {"dw_write_retry", write_retry},         {"dw_check_retry", check_retry},
 };
 #define CALLS (sizeof calls / sizeof *calls)
 

@@ -1,4 +1,4 @@
-/* A first use of the library: a client seals an Initial packet, and a server opens it. */
+/* A first use of the library: a client seals an Initial packet and then a Handshake packet, and a server opens them. */
 #include <inttypes.h>
 #include <stdio.h>
 #include <string.h>
@@ -19,6 +19,32 @@ static int refused(uint32_t answer)
     if (answer != DW_OK)
         printf("refusal %" PRIu32 ": %s\n", answer, dw_refusal_words(answer));
     return answer != DW_OK;
+}
+
+/* After the first flight: TLS has handed both sides the client's secret of the Handshake level. */
+static int handshake(const uint8_t *destination, size_t destination_len)
+{
+    const uint8_t secret[DW_SECRET_SIZE] = "thirty-two bytes, as TLS has it";
+    const char *text = "hello again";
+    uint8_t keys[DW_KEYS_SIZE], packet[DW_LIMIT], plain[DW_LIMIT];
+    uint64_t sealed[DW_SEALED_REPORT], header[DW_HEADER_REPORT], opened[DW_OPENED_REPORT], expected = 0;
+
+    if (refused(dw_install_keys(DW_VERSION_1, DW_LEVEL_HANDSHAKE, 0, secret, keys)))
+        return 1;
+    if (refused(dw_seal_long(keys, 0, 0, 0, 1, destination, destination_len, NULL, 0,
+                             (const uint8_t *)text, strlen(text), packet, sizeof packet, sealed)))
+        return 1;
+
+    /* The server: the header tells the level, and so which keys and which expected number are meant. */
+    if (refused(dw_read_header(packet, (size_t)sealed[DW_SEALED_LEN], header)))
+        return 1;
+    if (header[DW_HEADER_LEVEL] != DW_LEVEL_HANDSHAKE)
+        return 1;
+    if (refused(dw_open(keys, &expected, packet, (size_t)sealed[DW_SEALED_LEN], plain, sizeof plain, opened)))
+        return 1;
+    print_hex("sealed ", packet, (size_t)sealed[DW_SEALED_LEN]);
+    printf("payload %.*s\n", (int)opened[DW_OPENED_PAYLOAD_LEN], (const char *)plain + opened[DW_OPENED_HEADER_LEN]);
+    return 0;
 }
 
 int main(void)
@@ -54,5 +80,7 @@ int main(void)
     /* A packet with one bit turned over is refused, and nothing that was lent has changed: it is dropped. */
     packet[length - 1] ^= 1;
     printf("damaged ");
-    return refused(dw_open(keys, &expected, packet, length, plain, sizeof plain, opened)) ? 0 : 1;
+    if (!refused(dw_open(keys, &expected, packet, length, plain, sizeof plain, opened)))
+        return 1;
+    return handshake(destination, sizeof destination);
 }

@@ -1,4 +1,6 @@
 -- The fields before the number, and the number's low bytes behind them.
+use Prim.Native.Nat.{ℕ, _≤_}
+use mathlib.Core.Path.{sym, subst}
 use borrow.Author.Needs.{needs}
 use native.Mathlib.Omega.{arith}
 use Rattle.header_writing.specs.Written.{firstByte}
@@ -8,13 +10,13 @@ use Rattle.seal_header.proofs.write_header.Statement.{statement}
 use Rattle.seal_header.proofs.write_header.Tie as tie
 
 mul-first : tie.Need-mul-first
-mul-first c = omega (arith, c .type-for .ensures, type-fits (c .before .before .before .before .before .before .args .version) (c .before .before .before .before .before .before .args .level))
+mul-first c = omega (arith, subst (λ (type : ℕ). type ≤ 3) (sym (c .type-for .ensures)) (type-fits _ _))
 
 add-first : tie.Need-add-first
-add-first c = omega (arith, c .type-for .ensures, type-fits (c .before .before .before .before .before .before .args .version) (c .before .before .before .before .before .before .args .level))
+add-first c = omega (arith, subst (λ (type : ℕ). type ≤ 3) (sym (c .type-for .ensures)) (type-fits _ _))
 
 add-first-2 : tie.Need-add-first-2
-add-first-2 c = omega (arith, c .type-for .ensures, type-fits (c .before .before .before .before .before .before .args .version) (c .before .before .before .before .before .before .args .level))
+add-first-2 c = omega (arith, subst (λ (type : ℕ). type ≤ 3) (sym (c .type-for .ensures)) (type-fits _ _))
 
 store-requires : tie.Need-store-requires
 store-requires c κs =
