@@ -1,14 +1,13 @@
 -- Sections 17.2.2 to 17.2.4: what reading the header of a packet with a number comes to, by what the tests show; and where its parts stand.
 use Prim.Native.Nat.{ℕ, _+_, _≤_}
 use mathlib.Core.Path.{_≡_, refl, sym, _∙_}
-use mathlib.Core.Bool.{Bool, true, false, cond}
+use mathlib.Core.Bool.{Bool, true, false}
 use mathlib.Core.List.{List}
 use native.Mathlib.Omega.{arith}
 use lib.ListN.{length}
-use borrow.Author.Tests.{eq-eqb, ne-eqb}
-use Rattle.octets.specs.Outcome.{Outcome, refused, given, _>>=_}
+use Rattle.octets.specs.Outcome.{refused, given, _>>=_}
 use Rattle.octets.proofs.Outcome.{stepped, followed, given-same}
-use Rattle.versions.specs.Levels.{initial, hasToken}
+use Rattle.versions.specs.Levels.{hasToken}
 use Rattle.header_forms.specs.Rules.{Rules}
 use Rattle.header_forms.specs.Forms.{longForm, formed}
 use Rattle.header_fields.specs.Fields.{Place, behind, leastLength, fieldAt, restAt}

@@ -1,12 +1,6 @@
 -- As the field has it.
-use Prim.Native.Nat.{ℕ}
-use mathlib.Core.Path.{_≡_, sym, ap, _∙_}
-use mathlib.Core.List.{List}
 use borrow.Author.Needs.{needs}
 use borrow.Author.Tests.{eq-eqb, ne-eqb}
-use Rattle.header_writing.specs.Written.{writes}
-use Rattle.header_writing.specs.Answers.{tokenOf}
-use Rattle.header_writing.specs.declared.TokenField.{TokenField}
 use Rattle.header_writing.proofs.is_written_by.Statement.{statement}
 use Rattle.header_writing.proofs.is_written_by.Tie as tie
 

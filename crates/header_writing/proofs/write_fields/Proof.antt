@@ -3,7 +3,7 @@ use Prim.Native.Nat.{ℕ, _+_}
 use mathlib.Core.List.{List, _∷_, _++_}
 use borrow.Author.Needs.{needs}
 use native.Mathlib.Omega.{arith}
-use lib.ListN.{length, length-append}
+use lib.ListN.{length-append}
 use Rattle.octets.proofs.Buffers.{goes-on}
 use Rattle.header_forms.specs.Rules.{inForce}
 use Rattle.header_writing.specs.Written.{longFields, tokenBytes, packetFields}
