@@ -23,6 +23,9 @@ the number's length isn't 1 to 4, or is too short\n\
 the Retry token is empty\n\
 the acknowledged number isn't below the number, or no length covers the gap\n";
 
+// The names of the levels, by their numbers: RFC 9001 section 4.
+const LEVELS: [u8; 24] = *b"initial\n0-rtt\nhandshake\n";
+
 // A refusal, as a line.
 pub fn refused(number: u8) {
     terminal::say(b"refused ");
@@ -50,6 +53,13 @@ pub fn number(label: &[u8], value: u64) {
 pub fn hex_word(label: &[u8], value: u32) {
     terminal::say_left(label, LABEL);
     terminal::say_wide(value as u64, 8);
+    terminal::say(b"\n");
+}
+
+// A row of a level, by its name.
+pub fn level(label: &[u8], value: u8) {
+    terminal::say_left(label, LABEL);
+    terminal::say(word(&LEVELS, value as usize, b'\n'));
     terminal::say(b"\n");
 }
 
