@@ -10,7 +10,7 @@ use lib.ListN.{length}
 use Rattle.octets.specs.Octets.{same}
 use Rattle.terminal_words.specs.Words.{wordOf, wordCount, wordsFrom}
 use Rattle.terminal_words.proofs.Lists.{words-more, words-none, words-length}
-use Rattle.console_words.specs.Words.{isRight}
+use Rattle.console_keys.specs.Words.{isAsked}
 use Rattle.console_calls.specs.Calls.{areRight, usageAmong, enough, madeAs}
 
 -- ---- as many words as the manual's line has
@@ -33,12 +33,12 @@ module _ (line usage : List ℕ) (counted : enough line usage ≡ true) (i : ℕ
         omega arith
 
     module _ {t n : List ℕ} (word : t ≡ wordOf 0 line i) (name : n ≡ wordOf 32 usage (i + 1)) where
-      pub right-passed : isRight t n ≡ true
+      pub right-passed : isAsked t n ≡ true
           → areRight (wordsFrom 0 line i) (wordsFrom 32 usage (i + 1)) ≡ areRight (wordsFrom 0 line (i + 1)) (wordsFrom 32 usage (i + 1 + 1))
       unfolding areRight
       right-passed h = rw (words-more 0 line i m, words-more 32 usage (i + 1) named, sym word, sym name, h)
 
-      pub right-stopped : isRight t n ≡ false → areRight (wordsFrom 0 line i) (wordsFrom 32 usage (i + 1)) ≡ false
+      pub right-stopped : isAsked t n ≡ false → areRight (wordsFrom 0 line i) (wordsFrom 32 usage (i + 1)) ≡ false
       unfolding areRight
       right-stopped h = rw (words-more 0 line i m, words-more 32 usage (i + 1) named, sym word, sym name, h)
 
@@ -55,7 +55,7 @@ unfolding areRight
 uneven [] [] h = absurd (h refl)
 uneven [] (n ∷ ns) h = refl
 uneven (t ∷ ts) [] h = refl
-uneven (t ∷ ts) (n ∷ ns) h = rw (uneven ts ns (λ e. h (ap suc e)), and-false (isRight t n))
+uneven (t ∷ ts) (n ∷ ns) h = rw (uneven ts ns (λ e. h (ap suc e)), and-false (isAsked t n))
 
 -- ---- the manual's line on a command
 module _ (manual command : List ℕ) (i : ℕ) where

@@ -7,14 +7,14 @@ use lib.Dec.{eqb, leb}
 use lib.ListN.{length}
 use Rattle.octets.specs.Octets.{same}
 use Rattle.terminal_words.specs.Words.{wordOf, wordCount, wordsFrom}
-use Rattle.console_words.specs.Words.{isRight}
+use Rattle.console_keys.specs.Words.{isAsked}
 
 -- whether there is a word for each name, and each is what its name asks
 unfoldable pub areRight : List (List ℕ) → List (List ℕ) → Bool
 areRight [] [] = true
 areRight [] (n ∷ ns) = false
 areRight (t ∷ ts) [] = false
-areRight (t ∷ ts) (n ∷ ns) = isRight t n && areRight ts ns
+areRight (t ∷ ts) (n ∷ ns) = isAsked t n && areRight ts ns
 
 -- the first of some lines whose second word is the command: the first is the program's name. Where there is none, nothing
 unfoldable pub usageAmong : List ℕ → List (List ℕ) → List ℕ

@@ -1,6 +1,6 @@
 // A call, as a line of words, judged by the manual: a line for each command, with a name for each word behind it.
 use console::fields::END;
-use console_words::is_right;
+use console_keys::is_asked;
 use console_words::wrong;
 use terminal::print::less;
 use terminal_words::count;
@@ -12,9 +12,10 @@ ghost use Rattle.terminal_words.specs.Words.{wordsFrom};
 ghost use Rattle.console_calls.specs.Calls.{areRight, usageOf, enough, wellMade};
 
 // What the manual's names mean.
-const NOTES: [u8; 431] =
+const NOTES: [u8; 559] =
     *b"VERSION is 1, or 0x709a50c4 for the version 2 draft; a number is decimal, or hex behind 0x\n\
-ID is the Destination Connection ID of the client's first Initial, or after a Retry the Retry's source\n\
+ID, for Initial keys, is the Destination Connection ID of the client's first Initial, or after a Retry the Retry's source\n\
+LEVEL is initial, 0-rtt or handshake; SECRET is the secret of TLS for it and for who sealed, 32 bytes of hex\n\
 client|server is who sealed; ACKNOWLEDGED is the greatest number acknowledged, or -\n\
 IDs, TOKEN, PAYLOAD and DATAGRAM are hex, or - for nothing\n\
 FILE has a datagram, or a call for a script, on each line; # starts a comment; - is the input\n";
@@ -67,7 +68,7 @@ fn are_right(line: &[u8], usage: &[u8]) -> bool
     let given = count(line, END);
     let mut i: usize = 1;
     while i < given {
-        if !is_right(word(line, i, END), word(usage, i + 1, b' ')) {
+        if !is_asked(word(line, i, END), word(usage, i + 1, b' ')) {
             return false;
         }
         i += 1;

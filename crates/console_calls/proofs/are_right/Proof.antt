@@ -25,7 +25,7 @@ returns c =
     let l = c .before .before .before .before .before .loop in
     let word = c .before .before .before .word .ensures in
     let name = c .before .before .word2 .ensures in
-    let told = sym (c .before .is-right .ensures) in
+    let told = sym (c .before .is-asked .ensures) in
     sym (right-stopped (a .line .now) (a .usage .now) (c .before .before .before .before .before .before .before .before .before .pre) (l .i) (l .inv .0) (omega arith) word name (told ∙ not-true _ (c .if1 .taken))) ∙ l .inv .1
 
 loop-again : tie.Need-loop-again Inv-loop μ-loop
@@ -34,7 +34,7 @@ loop-again c =
     let l = c .before .before .before .before .before .loop in
     let word = c .before .before .before .word .ensures in
     let name = c .before .before .word2 .ensures in
-    let told = sym (c .before .is-right .ensures) in
+    let told = sym (c .before .is-asked .ensures) in
     (omega arith, sym (right-passed (a .line .now) (a .usage .now) (c .before .before .before .before .before .before .before .before .before .pre) (l .i) (l .inv .0) (omega arith) word name (told ∙ not-false _ (c .if1 .left))) ∙ l .inv .1)
 
 returns-2 : tie.Need-returns-2 Inv-loop μ-loop
