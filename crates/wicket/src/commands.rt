@@ -8,9 +8,13 @@ use terminal_words::word;
 // A call of any command but script.
 fn make(command: &[u8], line: &[u8]) {
     if same(command, b"keys") {
-        crate::sealing::keys(line);
+        crate::making::keys(line);
+    } else if same(command, b"install") {
+        crate::making::install(line);
     } else if same(command, b"seal") {
         crate::sealing::seal(line);
+    } else if same(command, b"seal-long") {
+        crate::sealing::seal_long(line);
     } else if same(command, b"open") {
         crate::opening::open(line);
     } else if same(command, b"header") {

@@ -14,6 +14,7 @@ fn read(header: Header, datagram: &[u8]) {
     let source = header.source;
     let token = header.token;
     answers::hex_word(b"version", header.version);
+    answers::level(b"level", header.level);
     answers::part(
         b"destination",
         destination.len,

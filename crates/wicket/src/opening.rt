@@ -20,7 +20,7 @@ fn opened(found: Opened, buffer: &[u8], expected: u64) {
     answers::number(b"expected then", expected);
 }
 
-// wicket open VERSION ID client|server EXPECTED DATAGRAM
+// wicket open VERSION ID|LEVEL:SECRET client|server EXPECTED DATAGRAM
 pub fn open(line: &[u8]) {
     let made = keys_of(line);
     if made.refused != 0 {

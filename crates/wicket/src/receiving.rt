@@ -152,7 +152,7 @@ fn receive_all(keys: Keys, before: u64, file: i32, chunk: &mut [u8], text: &mut 
     summary(tally, expected);
 }
 
-// wicket receive VERSION ID client|server EXPECTED FILE
+// wicket receive VERSION ID|LEVEL:SECRET client|server EXPECTED FILE
 pub fn receive(line: &[u8]) {
     let made = keys_of(line);
     if made.refused != 0 {
