@@ -6,11 +6,15 @@ use console::fields::value;
 use digits_reading::decode;
 use terminal_words::count;
 use terminal_words::word;
+ghost use mathlib.Core.Path.{_≡_};
 ghost use Prim.Native.Nat.{_≤_};
 ghost use Rattle.io.specs.Counts.{Counts};
+ghost use Rattle.vectors.specs.Records.{byteSpelt};
 
-// The number that a text spells, in a byte.
-fn byte(text: &[u8]) -> u8 {
+// The last byte of the number that a text spells.
+pub fn byte(text: &[u8]) -> u8
+    ensures { λ r. ⌜ r ≡ byteSpelt (now (text .entry)) ⌝ }
+{
     (value(text) % 256) as u8
 }
 

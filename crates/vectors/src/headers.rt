@@ -23,23 +23,24 @@ fn read(names: &[u8], header: Header) {
     let token = header.token;
     terminal::say(b"read");
     print::more(names, 0, header.version as u64);
-    place(names, 1, destination);
-    place(names, 2, source);
-    place(names, 3, token);
-    print::more(names, 4, header.length as u64);
-    print::more(names, 5, header.number_at as u64);
+    print::more(names, 1, header.level as u64);
+    place(names, 2, destination);
+    place(names, 3, source);
+    place(names, 4, token);
+    print::more(names, 5, header.length as u64);
+    print::more(names, 6, header.number_at as u64);
 }
 
 // The answer on a datagram, and the parts handed out of it.
 fn answered(datagram: &[u8]) {
-    let names = b"version,destination,source,token,Length,number at";
+    let names = b"version,level,destination,source,token,Length,number at";
     match read_header(datagram) {
         Reading::Refused(why) => print::refusal(why),
         Reading::Read(header) => read(names, header),
     }
-    print::part(names, 1, header_destination(datagram));
-    print::part(names, 2, header_source(datagram));
-    print::part(names, 3, header_token(datagram));
+    print::part(names, 2, header_destination(datagram));
+    print::part(names, 3, header_source(datagram));
+    print::part(names, 4, header_token(datagram));
     print::end();
 }
 

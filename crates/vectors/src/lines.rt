@@ -3,7 +3,7 @@ use crate::cipher;
 use crate::counts;
 use crate::hash;
 use crate::headers;
-use crate::initial;
+use crate::making;
 use crate::opening;
 use crate::print;
 use crate::retrying;
@@ -21,9 +21,13 @@ use terminal_words::word;
 // A call on keys and packets.
 fn packet_call(command: &[u8], line: &[u8]) {
     if same(command, b"keys") {
-        initial::keys(line);
+        making::keys(line);
+    } else if same(command, b"install") {
+        making::install(line);
     } else if same(command, b"seal") {
         sealing::seal(line);
+    } else if same(command, b"seal-long") {
+        sealing::seal_long(line);
     } else if same(command, b"open") {
         opening::open(line);
     } else if same(command, b"retry") {

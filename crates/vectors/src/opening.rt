@@ -1,5 +1,6 @@
 // RFC 9001 sections 5.3 and 5.4: packets opened.
 use crate::fields;
+use crate::making::record_of;
 use crate::print;
 use open::Opening;
 use open_writing::Opened;
@@ -39,8 +40,7 @@ fn after(expected: u64, out: &[u8], written: usize) {
 
 // A packet opened into a buffer, which is as long as the call says.
 fn open_into(line: &[u8], out: &mut [u8]) {
-    let made = wicket_words::keys_of(line);
-    let keys = made.keys;
+    let keys = record_of(line);
     let mut expected = console::fields::number(line, 4);
     let mut datagram = io::buffer();
     let length = fields::packet(line, 6, &mut datagram);
@@ -53,7 +53,7 @@ fn open_into(line: &[u8], out: &mut [u8]) {
     }
 }
 
-// open VERSION ID client|server EXPECTED ROOM DATAGRAM [PLACE BYTE SIZE], into a buffer of bytes 0xaa
+// open VERSION ID|LEVEL:SECRET client|server EXPECTED ROOM DATAGRAM [PLACE BYTE SIZE], into a buffer of bytes 0xaa
 pub fn open(line: &[u8]) {
     let mut out = [0xaau8; 4096];
     let room = fields::room(line, 5, &out);
