@@ -28,7 +28,7 @@ use Rattle.receiver.specs.Receiver.{Good, Fair}
 use Rattle.receiver.specs.Example.{toy, keys, plainOf, sealedOf, parcelOf, comes, empty, damaged, coming, opens, refuses, lent, Example}
 use Rattle.receiver.proofs.Receiver.{demand3}
 
-laws : Laws toy
+pub laws : Laws toy
 unfolding toy
 laws = record {
   stream-length = λ key nonce text. xor-length text nonce;

@@ -2,3 +2,4 @@ pub mod Boundaries
 pub mod Receiver
 pub mod Levels
 pub mod Example
+pub mod LevelsExample
