@@ -10,7 +10,7 @@ use Rattle.receivers.specs.Spaces.{Each, inAll}
 use Rattle.numbers_shortening.specs.Shortening.{nothing}
 use Rattle.versions.specs.Levels.{initial, zeroRtt, handshake, hasToken}
 use Rattle.header_forms.specs.Rules.{inForce}
-use Rattle.header_writing.specs.Written.{TokenField, holding, absent, Plain}
+use Rattle.header_writing.specs.Written.{holding, absent, Plain}
 use Rattle.packets.specs.Packet.{packetOf}
 use Rattle.receiver.specs.Receiver.{Yield, Parcel, rubbish, parcel}
 use Rattle.receiver.specs.Levels.{Ring, receiver, LeveledComing, promise}
