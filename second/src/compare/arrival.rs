@@ -2,12 +2,12 @@
 //! scope judges them.
 
 use super::draft::{expected_for, Draft, Fields, Id};
-use super::faults::Fault;
+use super::faults::{each_set, small_sets, Fault};
 use super::sample::{self, Kind, VERSIONS};
 use crate::random::Random;
 use second::header::{FIXED_BIT, FORM_BIT, TYPE_BITS};
 use second::keys::{Keys, Record, LEVEL_AT};
-use second::level::Level;
+use second::level::{Level, LEVELS};
 use second::numbers::NUMBER_LIMIT;
 
 /// How many bytes are left of a packet with such fields.
@@ -183,4 +183,18 @@ pub fn header_faults(level: Level) -> Vec<Fault<Arrival>> {
 pub fn opening_faults(level: Level) -> Vec<Fault<Arrival>> {
     let judged_by_keys = [VERSION_OF_OTHERS, UNKNOWN_VERSION, LEVEL_OF_OTHERS, OTHER_TYPE];
     [&CALLER_FAULTS[..], &START_FAULTS, &judged_by_keys, &field_faults(level), &PROTECTION_FAULTS].concat()
+}
+
+/// Puts every small set of an operation's faults, and larger ones, into arrivals of every level, and hands each on with
+/// the answer that this must bring.
+pub fn each_faulty(
+    faults_of: fn(Level) -> Vec<Fault<Arrival>>,
+    random: &mut Random,
+    mut with: impl FnMut(&Arrival, u32, &mut Random),
+) {
+    for level in LEVELS {
+        let faults = faults_of(level);
+        let sets = small_sets(faults.len(), 12, random);
+        each_set(&faults, sets, random, |random| Arrival::valid(random, level), &mut with);
+    }
 }

@@ -1,10 +1,9 @@
 //! `dw_open`: RFC 9001 sections 5.3 and 5.4, RFC 9000 appendix A.3.
 
-use super::arrival::{opening_faults, Arrival};
+use super::arrival::{each_faulty, opening_faults};
 use super::damage::{self, Sealed};
 use super::draft::{expected_for, Draft, Token};
 use super::entry::Entry;
-use super::faults::{each_set, small_sets};
 use super::opening::{report, Open};
 use super::receiver;
 use super::sample::{self, near, Kind};
@@ -203,22 +202,11 @@ fn windows(tally: &mut Tally, random: &mut Random) {
 }
 
 fn fault_sets(tally: &mut Tally, random: &mut Random) {
-    for level in LEVELS {
-        let faults = opening_faults(level);
-        let sets = small_sets(faults.len(), 12, random);
-        each_set(
-            &faults,
-            sets,
-            random,
-            |random| Arrival::valid(random, level),
-            |arrival, known, random| {
-                let (datagram, output) = (arrival.datagram(random), arrival.output(random));
-                let call =
-                    Open { keys: &arrival.record, expected: arrival.expected, datagram: &datagram, output: &output };
-                tally.compare_knowing(&call, known);
-            },
-        );
-    }
+    each_faulty(opening_faults, random, |arrival, known, random| {
+        let (datagram, output) = (arrival.datagram(random), arrival.output(random));
+        let call = Open { keys: &arrival.record, expected: arrival.expected, datagram: &datagram, output: &output };
+        tally.compare_knowing(&call, known);
+    });
 }
 
 /// Every bit of the key record matters.

@@ -1,18 +1,16 @@
 //! `dw_read_header`: RFC 9000 sections 17.2.2 to 17.2.4.
 
-use super::arrival::{header_faults, Arrival};
+use super::arrival::{each_faulty, header_faults};
 use super::call::{Call, Hex};
 use super::damage::{self, Sealed};
 use super::draft::{Draft, Token};
 use super::entry::Entry;
-use super::faults::{each_set, small_sets};
 use super::sample::{self, Kind};
 use super::tally::Tally;
 use crate::effect::Effect;
 use crate::library;
 use crate::random::Random;
 use second::header::{read_header, Header};
-use second::level::LEVELS;
 use std::array;
 use std::fmt::{self, Display, Formatter};
 
@@ -137,19 +135,9 @@ fn coalesced(tally: &mut Tally, random: &mut Random) {
 }
 
 fn fault_sets(tally: &mut Tally, random: &mut Random) {
-    for level in LEVELS {
-        let faults = header_faults(level);
-        let sets = small_sets(faults.len(), 12, random);
-        each_set(
-            &faults,
-            sets,
-            random,
-            |random| Arrival::valid(random, level),
-            |arrival, known, random| {
-                tally.compare_knowing(&ReadHeader(&arrival.datagram(random)), known);
-            },
-        );
-    }
+    each_faulty(header_faults, random, |arrival, known, random| {
+        tally.compare_knowing(&ReadHeader(&arrival.datagram(random)), known);
+    });
 }
 
 /// Bytes that start as a packet does, so that something is read before they are refused.
