@@ -8,9 +8,9 @@ unfoldable pub mixed : ℕ → ℕ → ℕ → ℕ → ℕ
 mixed a b c d = 2 • a ⊕ 3 • b ⊕ c ⊕ d
 
 -- a column, mixed
-abbrev pub mixedColumn : List ℕ → List ℕ
-mixedColumn s = row (λ r. mixed (get_or s r 0) (get_or s ((r + 1) % 4) 0) (get_or s ((r + 2) % 4) 0) (get_or s ((r + 3) % 4) 0))
+abbrev pub mixed_column : List ℕ → List ℕ
+mixed_column s = row (λ r. mixed (get_or s r 0) (get_or s ((r + 1) % 4) 0) (get_or s ((r + 2) % 4) 0) (get_or s ((r + 3) % 4) 0))
 
 -- MixColumns: each column is mixed
-abbrev pub mixColumns : State → State
-mixColumns s = state (λ r c. get_or (mixedColumn (column s c)) r 0)
+abbrev pub mix_columns : State → State
+mix_columns s = state (λ r c. get_or (mixed_column (column s c)) r 0)

@@ -1,12 +1,12 @@
 // The mixing of a state's columns (FIPS 197 section 5.1.3).
 ghost use Rattle.std.specs.Prelude.{◌≡◌, get_or};
-ghost use Rattle.aes_s_box.specs.Field.{xTimes};
+ghost use Rattle.aes_s_box.specs.Field.{x_times};
 ghost use Rattle.aes_state.specs.State.{row};
-ghost use Rattle.aes_mixing.specs.Mixing.{mixed, mixColumns};
+ghost use Rattle.aes_mixing.specs.Mixing.{mixed, mix_columns};
 
 // Section 4.2: a byte times x.
 fn x_times(b: u8) -> u8
-    ensures { result ≡ xTimes b }
+    ensures { result ≡ x_times b }
 {
     ((b >> 7) * 0x1b) ^ (b << 1)
 }
@@ -32,7 +32,7 @@ fn mix_row(a: [u8; 4], b: [u8; 4], c: [u8; 4], d: [u8; 4]) -> [u8; 4]
 
 // Section 5.1.3: MixColumns.
 pub fn mix_columns(s: [[u8; 4]; 4]) -> [[u8; 4]; 4]
-    ensures { result ≡ mixColumns s }
+    ensures { result ≡ mix_columns s }
 {
     let a = s[0];
     let b = s[1];

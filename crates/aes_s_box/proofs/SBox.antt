@@ -6,8 +6,8 @@ use native.Mathlib.Nat.{not-suc-le-zero, le_of_suc-le-suc}
 use lib.Dec.{T}
 use lib.ListN.{length, get_or, replicate, get_or-replicate}
 use Rattle.octets.proofs.Rule.{each, fits, Filled, filled}
-use Rattle.aes_s_box.specs.Field.{xTimes, sums, ◌•◌, squares, inverse}
-use Rattle.aes_s_box.specs.Box.{spelled, affineBit, sBox, Box}
+use Rattle.aes_s_box.specs.Field.{x_times, sums, ◌•◌, squares, inverse}
+use Rattle.aes_s_box.specs.Box.{spelled, affine_bit, s_box, Box}
 
 -- section 4.4: the inverse of each byte, 0 at 0
 unfoldable pub inverses : List ℕ
@@ -30,31 +30,31 @@ inverses =
     0x5b ∷ 0x23 ∷ 0x38 ∷ 0x34 ∷ 0x68 ∷ 0x46 ∷ 0x03 ∷ 0x8c ∷ 0xdd ∷ 0x9c ∷ 0x7d ∷ 0xa0 ∷ 0xcd ∷ 0x1a ∷ 0x41 ∷ 0x1c ∷ []
 
 inverses-filled : Filled inverse inverses 256
-unfolding inverses squares sums xTimes
+unfolding inverses squares sums x_times
 inverses-filled = filled inverse inverses tt
 
 -- section 5.1.1: the S-box's byte, by the table of the inverses
-abbrev pub boxAt : ℕ → ℕ
-boxAt b = spelled 8 (affineBit (get_or inverses b 0))
+abbrev pub box_at : ℕ → ℕ
+box_at b = spelled 8 (affine_bit (get_or inverses b 0))
 
-pub box-at : (b : ℕ) → b < 256 → boxAt b ≡ sBox b
-unfolding sBox
-box-at b h = ap (λ (i : ℕ). spelled 8 (affineBit i)) (inverses-filled b h)
+pub box-at : (b : ℕ) → b < 256 → box_at b ≡ s_box b
+unfolding s_box
+box-at b h = ap (λ (i : ℕ). spelled 8 (affine_bit i)) (inverses-filled b h)
 
 -- a table of 256 entries that passes the test is the S-box
-pub boxed : (table : List ℕ) → length table ≡ 256 → T (each (fits boxAt) 0 table) → Box table
-boxed table e t = record { rule = λ b h. filled boxAt table t b (rw e h) ∙ box-at b h }
+pub boxed : (table : List ℕ) → length table ≡ 256 → T (each (fits box_at) 0 table) → Box table
+boxed table e t = record { rule = λ b h. filled box_at table t b (rw e h) ∙ box-at b h }
 
 -- section 4.4: a byte times its inverse is 1, and 0 at 0
 products : List ℕ
 products = 0 ∷ replicate 255 1
 
-abbrev productAt : ℕ → ℕ
-productAt b = b • get_or inverses b 0
+abbrev product_at : ℕ → ℕ
+product_at b = b • get_or inverses b 0
 
-products-filled : Filled productAt products 256
-unfolding products inverses sums xTimes
-products-filled = filled productAt products tt
+products-filled : Filled product_at products 256
+unfolding products inverses sums x_times
+products-filled = filled product_at products tt
 
 pub inverse-is : (b : ℕ) → 1 ≤ b → b < 256 → b • inverse b ≡ 1
 unfolding products

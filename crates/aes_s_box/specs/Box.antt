@@ -11,13 +11,13 @@ spelled zero f = 0
 spelled (suc n) f = spelled n f + f n * 2 ^ n
 
 -- a bit of the affine step, with the constant {63}
-abbrev pub affineBit : ℕ → ℕ → ℕ
-affineBit b i = bit b i ⊕ bit b ((i + 4) % 8) ⊕ bit b ((i + 5) % 8) ⊕ bit b ((i + 6) % 8) ⊕ bit b ((i + 7) % 8) ⊕ bit 0x63 i
+abbrev pub affine_bit : ℕ → ℕ → ℕ
+affine_bit b i = bit b i ⊕ bit b ((i + 4) % 8) ⊕ bit b ((i + 5) % 8) ⊕ bit b ((i + 6) % 8) ⊕ bit b ((i + 7) % 8) ⊕ bit 0x63 i
 
 -- section 5.1.1: the inverse in the field, and then the affine step
-unfoldable pub sBox : ℕ → ℕ
-sBox b = spelled 8 (affineBit (inverse b))
+unfoldable pub s_box : ℕ → ℕ
+s_box b = spelled 8 (affine_bit (inverse b))
 
 -- a table of the S-box's bytes
 pub record Box (table : List ℕ) : Type 0 where
-  pub rule : (b : ℕ) → b < 256 → get_or table b 0 ≡ sBox b
+  pub rule : (b : ℕ) → b < 256 → get_or table b 0 ≡ s_box b

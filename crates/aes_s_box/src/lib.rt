@@ -1,6 +1,6 @@
 // The S-box (FIPS 197 section 5.1.1), as a table and at a byte.
 ghost use Rattle.std.specs.Prelude.{◌≡◌};
-ghost use Rattle.aes_s_box.specs.Box.{Box, sBox};
+ghost use Rattle.aes_s_box.specs.Box.{Box, s_box};
 
 // Table 4: the entry at b is the inverse of b in the field and then the affine step.
 const S_BOX: [u8; 256] = *b"\
@@ -31,7 +31,7 @@ pub fn table() -> [u8; 256]
 // Section 5.1.1: a byte, substituted.
 pub fn substitute(table: &[u8; 256], b: u8) -> u8
     requires { Box table.now }
-    ensures { result ≡ sBox b }
+    ensures { result ≡ s_box b }
 {
     table[b as usize]
 }

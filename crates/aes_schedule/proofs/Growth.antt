@@ -7,7 +7,7 @@ use lib.Dec.{eqb}
 use lib.ListN.{length, get_or, take, length-append}
 use lib.Seq.{get_or-take, take_at, take_all, length-take-le}
 use Rattle.octets.specs.Octets.{laid}
-use Rattle.aes_schedule.specs.Expansion.{word, turned, nextWord, grown, expansion}
+use Rattle.aes_schedule.specs.Expansion.{word, turned, next_word, grown, expansion}
 use Rattle.aes_state.specs.State.{sum}
 use Rattle.aes_state.proofs.Steps.{four}
 use Rattle.aes_schedule.proofs.Laws.{next-length}
@@ -20,8 +20,8 @@ word-take w i j l = four (byte 0 (omega arith)) (byte 1 (omega arith)) (byte 2 (
     byte r h = get_or-take (4 * i) w (4 * j + r) 0 (omega arith)
 
 -- word i depends on the words before it alone
-next-take : (w : List ℕ) (i : ℕ) → 4 ≤ i → nextWord (take (4 * i) w) i ≡ nextWord w i
-unfolding nextWord
+next-take : (w : List ℕ) (i : ℕ) → 4 ≤ i → next_word (take (4 * i) w) i ≡ next_word w i
+unfolding next_word
 next-take w i l = ap₂ (λ (a b : List ℕ). sum a (turned (eqb (i % 4) 0) i b)) (word-take w i (i - 4) (omega arith)) (word-take w i (i - 1) (omega arith))
 
 -- the key at the start of a buffer
@@ -30,14 +30,14 @@ unfolding expansion
 schedule-start d key e = ap (grown 40 4) (take_at key _ 16 e)
 
 -- one word more: what is left to make from the longer front is what was left before
-pub schedule-turn : (w w' next : List ℕ) (i : ℕ) → 4 ≤ i → i < 44 → length w ≡ 176 → next ≡ nextWord w i → w' ≡ laid w (4 * i) next
+pub schedule-turn : (w w' next : List ℕ) (i : ℕ) → 4 ≤ i → i < 44 → length w ≡ 176 → next ≡ next_word w i → w' ≡ laid w (4 * i) next
     → grown (44 - (i + 1)) (i + 1) (take (4 * (i + 1)) w') ≡ grown (44 - i) i (take (4 * i) w)
 unfolding grown
 schedule-turn w w' next i low high len new lay =
     let left : suc (44 - (i + 1)) ≡ 44 - i = omega arith in
     let four : length next ≡ 4 = ap length new ∙ next-length w i in
     let front : length (take (4 * i) w ++ next) ≡ 4 * (i + 1) = simp length-append (omega (arith, length-take-le (4 * i) w (omega arith))) in
-    let longer : take (4 * (i + 1)) w' ≡ take (4 * i) w ++ nextWord (take (4 * i) w) i =
+    let longer : take (4 * (i + 1)) w' ≡ take (4 * i) w ++ next_word (take (4 * i) w) i =
     ap (take (4 * (i + 1))) lay ∙ take_at (take (4 * i) w ++ next) _ _ front ∙ ap (λ (n : List ℕ). take (4 * i) w ++ n) (new ∙ sym (next-take w i low)) in
     ap (grown (44 - (i + 1)) (i + 1)) longer ∙ ap (λ (n : ℕ). grown n i (take (4 * i) w)) left
 

@@ -1,7 +1,7 @@
 // The key schedule (FIPS 197 section 5.2): 44 words of four bytes, one after the other.
 ghost use Rattle.std.specs.Prelude.{◌≡◌, ◌%◌, ◌≤◌, ◌<◌, length, eqb};
 ghost use Rattle.aes_s_box.specs.Box.{Box};
-ghost use Rattle.aes_schedule.specs.Expansion.{word, rotWord, Powers, rcon, turned, nextWord, expansion};
+ghost use Rattle.aes_schedule.specs.Expansion.{word, rot_word, Powers, rcon, turned, next_word, expansion};
 
 use aes_state::{sub_word, sum};
 
@@ -26,7 +26,7 @@ fn rcon(j: usize) -> [u8; 4]
 
 // RotWord.
 fn rot_word(a: [u8; 4]) -> [u8; 4]
-    ensures { result ≡ rotWord a }
+    ensures { result ≡ rot_word a }
 {
     [a[1], a[2], a[3], a[0]]
 }
@@ -54,7 +54,7 @@ fn word(w: &[u8], i: usize) -> [u8; 4]
 // Algorithm 2: word i, from the words before it.
 fn next_word(table: &[u8; 256], w: &[u8], i: usize) -> [u8; 4]
     requires { Box table.now × (4 ≤ i) × (i < 44) × (length w.now ≡ 176) }
-    ensures { result ≡ nextWord w.now i }
+    ensures { result ≡ next_word w.now i }
 {
     sum(word(w, i - 4), turned(table, word(w, i - 1), i))
 }

@@ -3,5 +3,5 @@ use Rattle.std.specs.Prelude.{◌+◌, ◌%◌}
 use Rattle.aes_state.specs.State.{State, at, state}
 
 -- ShiftRows: row r moves r places to the left
-abbrev pub shiftRows : State → State
-shiftRows s = state (λ r c. at s r ((c + r) % 4))
+abbrev pub shift_rows : State → State
+shift_rows s = state (λ r c. at s r ((c + r) % 4))

@@ -1,10 +1,10 @@
 // The shifting of a state's rows (FIPS 197 section 5.1.2).
 ghost use Rattle.std.specs.Prelude.{◌≡◌};
-ghost use Rattle.aes_shifting.specs.Shifting.{shiftRows};
+ghost use Rattle.aes_shifting.specs.Shifting.{shift_rows};
 
 // Section 5.1.2: ShiftRows.
 pub fn shift_rows(s: [[u8; 4]; 4]) -> [[u8; 4]; 4]
-    ensures { result ≡ shiftRows s }
+    ensures { result ≡ shift_rows s }
 {
     let a = s[0];
     let b = s[1];

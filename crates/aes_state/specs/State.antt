@@ -1,7 +1,7 @@
 -- FIPS 197 section 3.4 and sections 5.1.1 and 5.1.4: the state, and the steps of a round that go byte by byte.
 use Rattle.std.specs.Prelude.{ℕ, ◌+◌, ◌*◌, List, [], ◌∷◌, ◌++◌, get_or}
 use Rattle.aes_s_box.specs.Field.{◌⊕◌}
-use Rattle.aes_s_box.specs.Box.{sBox}
+use Rattle.aes_s_box.specs.Box.{s_box}
 
 -- ---- section 3.4: the state, four rows of four bytes
 abbrev pub State : Type 0
@@ -31,17 +31,17 @@ output s = column s 0 ++ column s 1 ++ column s 2 ++ column s 3
 
 -- ---- the steps of a round
 -- section 5.1.1
-abbrev pub subBytes : State → State
-subBytes s = state (λ r c. sBox (at s r c))
+abbrev pub sub_bytes : State → State
+sub_bytes s = state (λ r c. s_box (at s r c))
 
 -- section 5.1.4: a round key, its words as columns, is added
-abbrev pub addRoundKey : State → State → State
-addRoundKey s k = state (λ r c. at s r c ⊕ at k r c)
+abbrev pub add_round_key : State → State → State
+add_round_key s k = state (λ r c. at s r c ⊕ at k r c)
 
 -- the sum of two words
 abbrev pub sum : List ℕ → List ℕ → List ℕ
 sum a b = row (λ j. get_or a j 0 ⊕ get_or b j 0)
 
 -- SubWord
-abbrev pub subWord : List ℕ → List ℕ
-subWord a = row (λ j. sBox (get_or a j 0))
+abbrev pub sub_word : List ℕ → List ℕ
+sub_word a = row (λ j. s_box (get_or a j 0))

@@ -1,7 +1,7 @@
 // The state, four rows of four bytes, and the steps of a round that go byte by byte (FIPS 197 sections 3.4, 5.1.1 and 5.1.4).
 ghost use Rattle.std.specs.Prelude.{◌≡◌, length};
 ghost use Rattle.aes_s_box.specs.Box.{Box};
-ghost use Rattle.aes_state.specs.State.{sum, subWord, input, output, subBytes, addRoundKey};
+ghost use Rattle.aes_state.specs.State.{sum, sub_word, input, output, sub_bytes, add_round_key};
 
 use aes_s_box::substitute;
 
@@ -15,7 +15,7 @@ pub fn sum(a: [u8; 4], b: [u8; 4]) -> [u8; 4]
 // Four bytes, substituted: SubWord of section 5.2, and a row of SubBytes.
 pub fn sub_word(table: &[u8; 256], a: [u8; 4]) -> [u8; 4]
     requires { Box table.now }
-    ensures { result ≡ subWord a }
+    ensures { result ≡ sub_word a }
 {
     [
         substitute(table, a[0]),
@@ -55,7 +55,7 @@ pub fn output(s: [[u8; 4]; 4]) -> [u8; 16]
 // Section 5.1.1: SubBytes.
 pub fn sub_bytes(table: &[u8; 256], s: [[u8; 4]; 4]) -> [[u8; 4]; 4]
     requires { Box table.now }
-    ensures { result ≡ subBytes s }
+    ensures { result ≡ sub_bytes s }
 {
     let a = s[0];
     let b = s[1];
@@ -71,7 +71,7 @@ pub fn sub_bytes(table: &[u8; 256], s: [[u8; 4]; 4]) -> [[u8; 4]; 4]
 
 // Section 5.1.4: AddRoundKey.
 pub fn add_round_key(s: [[u8; 4]; 4], k: [[u8; 4]; 4]) -> [[u8; 4]; 4]
-    ensures { result ≡ addRoundKey s k }
+    ensures { result ≡ add_round_key s k }
 {
     let a = s[0];
     let b = s[1];

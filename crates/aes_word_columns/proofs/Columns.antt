@@ -13,14 +13,14 @@ use Rattle.octets.proofs.Numbers.{bytes-length, byte_power, bytes-append, bytes_
 use Rattle.octets.proofs.Xor.{xor_assoc}
 use Rattle.sha256_words.specs.Words.{ROTR}
 use Rattle.aes_s_box.specs.Field.{◌⊕◌, ◌•◌}
-use Rattle.aes_s_box.specs.Box.{sBox}
-use Rattle.aes_s_box.proofs.Bytes.{sBox-lt}
-use Rattle.aes_state.specs.State.{sum, subWord}
+use Rattle.aes_s_box.specs.Box.{s_box}
+use Rattle.aes_s_box.proofs.Bytes.{s_box-lt}
+use Rattle.aes_state.specs.State.{sum, sub_word}
 use Rattle.aes_state.proofs.Steps.{four, row-bytes}
-use Rattle.aes_mixing.specs.Mixing.{mixed, mixedColumn}
+use Rattle.aes_mixing.specs.Mixing.{mixed, mixed_column}
 use Rattle.aes_word_table.specs.Table.{spread, entry}
 use Rattle.aes_word_table.proofs.Entries.{entry-bytes, entry_lt}
-use Rattle.aes_word_columns.specs.Column.{byteIn}
+use Rattle.aes_word_columns.specs.Column.{byte_in}
 
 -- ---- added
 byte-xor : (x y k : ℕ) → bit_xor x y / 256 ^ k % 256 ≡ x / 256 ^ k % 256 ⊕ y / 256 ^ k % 256
@@ -62,7 +62,7 @@ around : (a b c d : ℕ) → a ⊕ b ⊕ c ⊕ d ≡ b ⊕ c ⊕ d ⊕ a
 around a b c d = ap (λ (x : ℕ). x ⊕ d) (xor_assoc a b c) ∙ xor_assoc a (b ⊕ c) d ∙ xor_comm a (b ⊕ c ⊕ d)
 
 -- what four bytes add to their column, each turned to its row, is the column mixed
-spread-is : (a b c d : ℕ) (k : List ℕ) → sum (sum (sum (sum (spread a) (turn 3 (spread b))) (turn 2 (spread c))) (turn 1 (spread d))) k ≡ sum (mixedColumn (a ∷ b ∷ c ∷ d ∷ [])) k
+spread-is : (a b c d : ℕ) (k : List ℕ) → sum (sum (sum (sum (spread a) (turn 3 (spread b))) (turn 2 (spread c))) (turn 1 (spread d))) k ≡ sum (mixed_column (a ∷ b ∷ c ∷ d ∷ [])) k
 unfolding mixed
 spread-is a b c d k =
     four refl
@@ -73,27 +73,27 @@ spread-is a b c d k =
     key : (i : ℕ) {x y : ℕ} → x ≡ y → x ⊕ get_or k i 0 ≡ y ⊕ get_or k i 0
     key i e = ap (λ (x : ℕ). x ⊕ get_or k i 0) e
 
-entry-turned : (k m b : ℕ) {x x' : ℕ} → k + m ≡ 4 → x ≡ entry b → x' ≡ ROTR (8 * k) x → bytes 4 x' ≡ turn m (spread (sBox b))
+entry-turned : (k m b : ℕ) {x x' : ℕ} → k + m ≡ 4 → x ≡ entry b → x' ≡ ROTR (8 * k) x → bytes 4 x' ≡ turn m (spread (s_box b))
 entry-turned k m b all is turns =
     ap (bytes 4) (turns ∙ ap (ROTR (8 * k)) is) ∙ turned k m (entry b) all (entry_lt b) ∙ ap (turn m) (entry-bytes b)
 
 -- a column of a round: an entry of the table for each row, turned to it, and the key's column
 module _ (p q r s k a b c d : ℕ) {q' r' s' : ℕ} where
   pub mixed-is : p ≡ entry a → q ≡ entry b → r ≡ entry c → s ≡ entry d → q' ≡ ROTR 8 q → r' ≡ ROTR 16 r → s' ≡ ROTR 24 s
-      → bytes 4 (p ⊕ q' ⊕ r' ⊕ s' ⊕ k) ≡ sum (mixedColumn (sBox a ∷ sBox b ∷ sBox c ∷ sBox d ∷ [])) (bytes 4 k)
+      → bytes 4 (p ⊕ q' ⊕ r' ⊕ s' ⊕ k) ≡ sum (mixed_column (s_box a ∷ s_box b ∷ s_box c ∷ s_box d ∷ [])) (bytes 4 k)
   mixed-is ep eq er es tq tr ts =
       let one = added p q' (ap (bytes 4) ep ∙ entry-bytes a) (entry-turned 1 3 b refl eq tq) in
       let two = added (p ⊕ q') r' one (entry-turned 2 2 c refl er tr) in
       let three = added (p ⊕ q' ⊕ r') s' two (entry-turned 3 1 d refl es ts) in
-      added (p ⊕ q' ⊕ r' ⊕ s') k three refl ∙ spread-is (sBox a) (sBox b) (sBox c) (sBox d) (bytes 4 k)
+      added (p ⊕ q' ⊕ r' ⊕ s') k three refl ∙ spread-is (s_box a) (s_box b) (s_box c) (s_box d) (bytes 4 k)
 
 -- a column of the last round: four bytes of the S-box, and the key's column
-pub plain-is : (w k a b c d : ℕ) {s : List ℕ} → s ≡ subWord (a ∷ b ∷ c ∷ d ∷ []) → w ≡ number (part s 0 4) → bytes 4 (w ⊕ k) ≡ sum (sBox a ∷ sBox b ∷ sBox c ∷ sBox d ∷ []) (bytes 4 k)
+pub plain-is : (w k a b c d : ℕ) {s : List ℕ} → s ≡ sub_word (a ∷ b ∷ c ∷ d ∷ []) → w ≡ number (part s 0 4) → bytes 4 (w ⊕ k) ≡ sum (s_box a ∷ s_box b ∷ s_box c ∷ s_box d ∷ []) (bytes 4 k)
 plain-is w k a b c d is read =
     let s : List ℕ = a ∷ b ∷ c ∷ d ∷ [] in
-    added w k (ap (bytes 4) (read ∙ ap (λ (l : List ℕ). number (part l 0 4)) is) ∙ bytes_back (subWord s) (row-bytes _ (λ i. sBox-lt (get_or s i 0)))) refl
+    added w k (ap (bytes 4) (read ∙ ap (λ (l : List ℕ). number (part l 0 4)) is) ∙ bytes_back (sub_word s) (row-bytes _ (λ i. s_box-lt (get_or s i 0)))) refl
 
 -- the byte in row 3
-pub lowest : (w : ℕ) → w % 256 ≡ byteIn 3 w
+pub lowest : (w : ℕ) → w % 256 ≡ byte_in 3 w
 unfolding bytes
 lowest w = ap (λ (n : ℕ). n % 256) (sym (div-one w))

@@ -3,9 +3,9 @@ ghost use Rattle.std.specs.Prelude.{◌≡◌};
 ghost use Rattle.octets.specs.Octets.{bytes};
 ghost use Rattle.aes_s_box.specs.Box.{Box};
 ghost use Rattle.aes_state.specs.State.{sum};
-ghost use Rattle.aes_mixing.specs.Mixing.{mixedColumn};
+ghost use Rattle.aes_mixing.specs.Mixing.{mixed_column};
 ghost use Rattle.aes_word_table.specs.Table.{Mixing};
-ghost use Rattle.aes_word_columns.specs.Column.{shiftedColumn};
+ghost use Rattle.aes_word_columns.specs.Column.{shifted_column};
 
 use aes_state::sub_word;
 use sha256_words::rotate_right;
@@ -14,7 +14,7 @@ use sha256_words::rotate_right;
 // One table serves four rows: what a byte of row r adds to its column is what one of row 0 adds, turned by r bytes.
 pub fn mix(table: &[u32; 256], a: u32, b: u32, c: u32, d: u32, k: u32) -> u32
     requires { Mixing table.now }
-    ensures { bytes 4 result ≡ sum (mixedColumn (shiftedColumn a b c d)) (bytes 4 k) }
+    ensures { bytes 4 result ≡ sum (mixed_column (shifted_column a b c d)) (bytes 4 k) }
 {
     let p = table[((a >> 24) % 256) as usize];
     let q = table[((b >> 16) % 256) as usize];
@@ -26,7 +26,7 @@ pub fn mix(table: &[u32; 256], a: u32, b: u32, c: u32, d: u32, k: u32) -> u32
 // A column of the last round, which is not mixed.
 pub fn plain(table: &[u8; 256], a: u32, b: u32, c: u32, d: u32, k: u32) -> u32
     requires { Box table.now }
-    ensures { bytes 4 result ≡ sum (shiftedColumn a b c d) (bytes 4 k) }
+    ensures { bytes 4 result ≡ sum (shifted_column a b c d) (bytes 4 k) }
 {
     let shifted = [
         ((a >> 24) % 256) as u8,

@@ -1,10 +1,10 @@
 // AES-128 on words (FIPS 197 section 5.1): the rounds on four columns, by a table; of one block, and of two side by side.
 ghost use Rattle.std.specs.Prelude.{◌≡◌, ◌++◌, ◌≤◌, length};
 ghost use Rattle.aes_s_box.specs.Box.{Box};
-ghost use Rattle.aes_state.specs.State.{input as input_of, output as outputOf, subBytes, addRoundKey};
-ghost use Rattle.aes_shifting.specs.Shifting.{shiftRows};
-ghost use Rattle.aes_mixing.specs.Mixing.{mixColumns};
-ghost use Rattle.aes_byte_rounds.specs.Cipher.{roundKey, encrypted};
+ghost use Rattle.aes_state.specs.State.{input as input_of, output as output_of, sub_bytes, add_round_key};
+ghost use Rattle.aes_shifting.specs.Shifting.{shift_rows};
+ghost use Rattle.aes_mixing.specs.Mixing.{mix_columns};
+ghost use Rattle.aes_byte_rounds.specs.Cipher.{round_key, encrypted};
 ghost use Rattle.aes_word_table.specs.Table.{Mixing};
 ghost use Rattle.aes_word_state.specs.Columns.{state_of};
 
@@ -17,7 +17,7 @@ const ROUNDS: usize = 10;
 // Section 5.1: the round key of a round.
 fn round_key(w: &[u8], round: usize) -> Columns
     requires { (round ≤ 10) × (length w.now ≡ 176) }
-    ensures { state_of result ≡ roundKey w.now round }
+    ensures { state_of result ≡ round_key w.now round }
 {
     let at = 16 * round;
     input(&w[at..at + 16])
@@ -26,7 +26,7 @@ fn round_key(w: &[u8], round: usize) -> Columns
 // Section 5.1: a round.
 fn one_round(table: &[u32; 256], s: Columns, key: Columns) -> Columns
     requires { Mixing table.now }
-    ensures { state_of result ≡ addRoundKey (mixColumns (shiftRows (subBytes (state_of s)))) (state_of key) }
+    ensures { state_of result ≡ add_round_key (mix_columns (shift_rows (sub_bytes (state_of s)))) (state_of key) }
 {
     Columns {
         a: mix(table, s.a, s.b, s.c, s.d, key.a),
@@ -39,7 +39,7 @@ fn one_round(table: &[u32; 256], s: Columns, key: Columns) -> Columns
 // Section 5.1: the last round, which does not mix the columns.
 fn last_round(table: &[u8; 256], s: Columns, key: Columns) -> Columns
     requires { Box table.now }
-    ensures { state_of result ≡ addRoundKey (shiftRows (subBytes (state_of s))) (state_of key) }
+    ensures { state_of result ≡ add_round_key (shift_rows (sub_bytes (state_of s))) (state_of key) }
 {
     Columns {
         a: plain(table, s.a, s.b, s.c, s.d, key.a),
@@ -52,7 +52,7 @@ fn last_round(table: &[u8; 256], s: Columns, key: Columns) -> Columns
 // Section 5.1: what the rounds begin with, a block and the first round key.
 fn begin(w: &[u8], block: &[u8; 16]) -> Columns
     requires { length w.now ≡ 176 }
-    ensures { state_of result ≡ addRoundKey (input_of block.now) (roundKey w.now 0) }
+    ensures { state_of result ≡ add_round_key (input_of block.now) (round_key w.now 0) }
 {
     add_round_key(input(block), round_key(w, 0))
 }
@@ -60,7 +60,7 @@ fn begin(w: &[u8], block: &[u8; 16]) -> Columns
 // Section 5.1: what they end with, the last round and a block.
 fn finish(table: &[u8; 256], w: &[u8], s: Columns) -> [u8; 16]
     requires { Box table.now × (length w.now ≡ 176) }
-    ensures { result ≡ outputOf (addRoundKey (shiftRows (subBytes (state_of s))) (roundKey w.now 10)) }
+    ensures { result ≡ output_of (add_round_key (shift_rows (sub_bytes (state_of s))) (round_key w.now 10)) }
 {
     output(last_round(table, s, round_key(w, ROUNDS)))
 }

@@ -1,6 +1,6 @@
 // A state as four columns (FIPS 197 section 3.4), and a round key added to it (section 5.1.4).
 ghost use Rattle.std.specs.Prelude.{◌≡◌, length};
-ghost use Rattle.aes_state.specs.State.{output as outputOf, addRoundKey};
+ghost use Rattle.aes_state.specs.State.{output as output_of, add_round_key};
 ghost use Rattle.aes_word_state.specs.Columns.{spelt, state_of};
 
 // The four columns of a state.
@@ -27,7 +27,7 @@ pub fn input(block: &[u8]) -> Columns
 
 // Section 3.4: a state as a block.
 pub fn output(s: Columns) -> [u8; 16]
-    ensures { result ≡ outputOf (state_of s) }
+    ensures { result ≡ output_of (state_of s) }
 {
     let mut block = [0u8; 16];
     octets::store(&mut block, 0, 4, s.a as u64);
@@ -39,7 +39,7 @@ pub fn output(s: Columns) -> [u8; 16]
 
 // Section 5.1.4: AddRoundKey.
 pub fn add_round_key(s: Columns, key: Columns) -> Columns
-    ensures { state_of result ≡ addRoundKey (state_of s) (state_of key) }
+    ensures { state_of result ≡ add_round_key (state_of s) (state_of key) }
 {
     Columns {
         a: s.a ^ key.a,

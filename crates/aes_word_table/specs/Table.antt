@@ -2,7 +2,7 @@
 use Rattle.std.specs.Prelude.{ℕ, ◌<◌, ◌≡◌, List, [], ◌∷◌, get_or}
 use Rattle.octets.specs.Octets.{number}
 use Rattle.aes_s_box.specs.Field.{◌•◌}
-use Rattle.aes_s_box.specs.Box.{sBox}
+use Rattle.aes_s_box.specs.Box.{s_box}
 
 -- section 5.1.3: what a byte in row 0 adds to each row of its mixed column
 abbrev pub spread : ℕ → List ℕ
@@ -10,7 +10,7 @@ spread b = (2 • b) ∷ b ∷ b ∷ (3 • b) ∷ []
 
 -- the entry at b: what the S-box's byte of b adds, as a word
 abbrev pub entry : ℕ → ℕ
-entry b = number (spread (sBox b))
+entry b = number (spread (s_box b))
 
 -- a table of these words
 pub record Mixing (table : List ℕ) : Type 0 where

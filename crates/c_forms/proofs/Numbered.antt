@@ -12,8 +12,8 @@ pub record Numbered {A : Type 0} (o : Outcome A) : Type 0 where
   pub number : (n : ℕ) → refused n ≡ o → 0 < n
 
 -- ---- what an answer of 0 says
-pub zero-given : {A : Type 0} {reportOf : A → List ℕ} {before report : List ℕ} (o : Outcome A) → Numbered o → Answers o reportOf before 0 report
-    → (a : A) × (o ≡ given a) × (report ≡ reportOf a)
+pub zero-given : {A : Type 0} {report_of : A → List ℕ} {before report : List ℕ} (o : Outcome A) → Numbered o → Answers o report_of before 0 report
+    → (a : A) × (o ≡ given a) × (report ≡ report_of a)
 zero-given (refused n) numbered answers = let never : ⊥ = omega (arith, numbered.number n refl, answers.answer) in absurd never
 zero-given (given a) numbered answers = (a, refl, answers.reported)
 

@@ -14,9 +14,9 @@ told report (refused n) before = before
 told report (given a) before = report a
 
 -- the answer and the report of an outcome
-pub record Answers {A : Type 0} (o : Outcome A) (reportOf : A → List ℕ) (before : List ℕ) (r : ℕ) (report : List ℕ) : Type 0 where
+pub record Answers {A : Type 0} (o : Outcome A) (report_of : A → List ℕ) (before : List ℕ) (r : ℕ) (report : List ℕ) : Type 0 where
   pub answer : r ≡ answered o
-  pub reported : report ≡ told reportOf o before
+  pub reported : report ≡ told report_of o before
 
 -- the same, and the bytes given at the start of an output; their length is the report
 pub record Writes (o : Outcome (List ℕ)) (before : List ℕ) (r : ℕ) (report : List ℕ) (buffer then : List ℕ) : Type 0 where

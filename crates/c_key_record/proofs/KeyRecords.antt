@@ -9,7 +9,7 @@ use Rattle.octets.specs.Octets.{bytes, number, part, laid}
 use Rattle.octets.proofs.Numbers.{bytes-length, number-back}
 use Rattle.octets.proofs.Buffers.{goes_on, lay-one, laid-length}
 use Rattle.protection.specs.Protection.{Keys}
-use Rattle.c_key_record.specs.Layout.{keyBytes, keysIn}
+use Rattle.c_key_record.specs.Layout.{key_bytes, keys_in}
 
 -- the parts have their sizes
 pub record Sized (k : Keys) : Type 0 where
@@ -32,14 +32,14 @@ module _ (k : Keys) (sized : Sized k) where
   before-hp : length (front k ++ k.key ++ k.iv) ≡ 33
   before-hp = omega (arith, length-append (front k ++ k.key) k.iv, before-iv, sized.of-iv)
 
-  pub key-bytes-length : length (keyBytes k) ≡ 49
-  unfolding keyBytes
+  pub key-bytes-length : length (key_bytes k) ≡ 49
+  unfolding key_bytes
   key-bytes-length = omega (arith, length-append (front k ++ k.key ++ k.iv) k.hp, before-hp, sized.of-hp)
 
   -- five parts, one behind the other, fill 49 bytes
   pub keys-laid : (d d₁ d₂ d₃ d₄ : List ℕ) → length d ≡ 49 → d₁ ≡ laid d 0 (bytes 4 k.version) → d₂ ≡ laid (set d₁ 4 k.level) 5 k.key → d₃ ≡ laid d₂ 21 k.iv → d₄ ≡ laid d₃ 33 k.hp
-      → d₄ ≡ keyBytes k
-  unfolding keyBytes
+      → d₄ ≡ key_bytes k
+  unfolding key_bytes
   keys-laid d d₁ d₂ d₃ d₄ all e₁ e₂ e₃ e₄ =
       let version : List ℕ = bytes 4 k.version in
       let four = bytes-length 4 k.version in
@@ -49,8 +49,8 @@ module _ (k : Keys) (sized : Sized k) where
       let three = goes_on (front k) k.key d (set d₁ 4 k.level) d₂ 5 two e₂ (sym before-key) in
       let four = goes_on (front k ++ k.key) k.iv d d₂ d₃ 21 three e₃ (sym before-iv) in
       let five = goes_on (front k ++ k.key ++ k.iv) k.hp d d₃ d₄ 33 four e₄ (sym before-hp) in
-      let none = drop_of_length-le d {i = length (keyBytes k)} (omega (arith, key-bytes-length)) in
-      five ∙ ap (λ (rest : List ℕ). keyBytes k ++ rest) none ∙ append-nil (keyBytes k)
+      let none = drop_of_length-le d {i = length (key_bytes k)} (omega (arith, key-bytes-length)) in
+      five ∙ ap (λ (rest : List ℕ). key_bytes k ++ rest) none ∙ append-nil (key_bytes k)
 
 -- what stands between two lists
 between : (a b c : List ℕ) (at n : ℕ) → length a ≡ at → length b ≡ n → part (a ++ b ++ c) at n ≡ b
@@ -58,37 +58,37 @@ between a b c at n before size = rw (append_assoc a b c, drop_at a (b ++ c) at b
 
 -- ---- 49 bytes give the record back
 module _ (k : Keys) where
-  version-back : part (keyBytes k) 0 4 ≡ bytes 4 k.version
-  unfolding keyBytes bytes
+  version-back : part (key_bytes k) 0 4 ≡ bytes 4 k.version
+  unfolding key_bytes bytes
   version-back = refl
 
-  level-back : get_or (keyBytes k) 4 0 ≡ k.level
-  unfolding keyBytes bytes
+  level-back : get_or (key_bytes k) 4 0 ≡ k.level
+  unfolding key_bytes bytes
   level-back = refl
 
   module _ (sized : Sized k) where
-    key_back : part (keyBytes k) 5 16 ≡ k.key
-    unfolding keyBytes
+    key_back : part (key_bytes k) 5 16 ≡ k.key
+    unfolding key_bytes
     key_back =
         rw (append_assoc (front k ++ k.key) k.iv k.hp)
         (between (front k) k.key (k.iv ++ k.hp) 5 16 (before-key k sized) sized.of-key)
 
-    iv-back : part (keyBytes k) 21 12 ≡ k.iv
-    unfolding keyBytes
+    iv-back : part (key_bytes k) 21 12 ≡ k.iv
+    unfolding key_bytes
     iv-back = between (front k ++ k.key) k.iv k.hp 21 12 (before-iv k sized) sized.of-iv
 
-    hp-back : part (keyBytes k) 33 16 ≡ k.hp
-    unfolding keyBytes
+    hp-back : part (key_bytes k) 33 16 ≡ k.hp
+    unfolding key_bytes
     hp-back =
         rw (← (append-nil (front k ++ k.key ++ k.iv ++ k.hp)))
         (between (front k ++ k.key ++ k.iv) k.hp [] 33 16 (before-hp k sized) sized.of-hp)
 
-    pub keys-back : k.version < 2 ^ 32 → keysIn (keyBytes k) ≡ k
-    unfolding keysIn
+    pub keys-back : k.version < 2 ^ 32 → keys_in (key_bytes k) ≡ k
+    unfolding keys_in
     keys-back fits = rw (version-back, level-back, key_back, iv-back, hp-back, number-back 4 k.version fits)
 
 -- a record whose parts were read from 49 bytes
 pub keys-read : (s : List ℕ) {v level : ℕ} {key iv hp : List ℕ} → v ≡ number (part s 0 4) → level ≡ get_or s 4 0 → key ≡ part s 5 16 → iv ≡ part s 21 12 → hp ≡ part s 33 16
-    → ◌≡◌ {A = Keys} (record { version = v; level = level; key = key; iv = iv; hp = hp }) (keysIn s)
-unfolding keysIn
+    → ◌≡◌ {A = Keys} (record { version = v; level = level; key = key; iv = iv; hp = hp }) (keys_in s)
+unfolding keys_in
 keys-read s version level key iv hp = rw (version, level, key, iv, hp)

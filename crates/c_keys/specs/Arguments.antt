@@ -7,10 +7,10 @@ use Rattle.keys.specs.Sides.{Side, client, server}
 use Rattle.keys.specs.declared.MadeKeys.{MadeKeys}
 
 -- 0 is the client, anything else the server
-abbrev pub sideBy : ℕ → Side
-sideBy zero = client
-sideBy (suc any) = server
+abbrev pub side_by : ℕ → Side
+side_by zero = client
+side_by (suc any) = server
 
 -- the keys where no refusal stands beside them
-abbrev pub outcomeOf : MadeKeys → Outcome Keys
-outcomeOf made = cond (eqb made.refused 0) (given (keys_of made.keys)) (refused made.refused)
+abbrev pub outcome_of : MadeKeys → Outcome Keys
+outcome_of made = cond (eqb made.refused 0) (given (keys_of made.keys)) (refused made.refused)

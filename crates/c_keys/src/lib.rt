@@ -2,8 +2,8 @@
 ghost use Rattle.std.specs.Prelude.{◌≡◌};
 ghost use Rattle.keys.specs.Answers.{side_of};
 ghost use Rattle.c_forms.specs.Promises.{Answers};
-ghost use Rattle.c_key_record.specs.Layout.{keyBytes};
-ghost use Rattle.c_keys.specs.Arguments.{sideBy, outcomeOf};
+ghost use Rattle.c_key_record.specs.Layout.{key_bytes};
+ghost use Rattle.c_keys.specs.Arguments.{side_by, outcome_of};
 ghost use Rattle.c_keys.specs.Promises.{DwInitialKeys, DwInstallKeys};
 
 use c_key_record::{KeyRecord, key_bytes};
@@ -11,7 +11,7 @@ use keys::{MadeKeys, Side};
 
 // The side whose keys are meant: 0 is the client.
 fn side_by(server: u32) -> Side
-    ensures { side_of result ≡ sideBy server }
+    ensures { side_of result ≡ side_by server }
 {
     if server == 0 {
         return Side::Client;
@@ -21,7 +21,7 @@ fn side_by(server: u32) -> Side
 
 // Writes the keys that were made, where no refusal stands beside them.
 fn report_keys(made: MadeKeys, keys: &mut KeyRecord) -> u32
-    ensures { Answers (outcomeOf made) keyBytes keys.old result keys.new }
+    ensures { Answers (outcome_of made) key_bytes keys.old result keys.new }
 {
     if made.refused != 0 {
         return made.refused as u32;

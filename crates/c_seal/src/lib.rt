@@ -1,8 +1,8 @@
 // RFC 9001 section 5 for C: a packet sealed with a key record.
 ghost use Rattle.header_writing.specs.Written.{holding, absent};
-ghost use Rattle.seal_judging.specs.Judging.{sealingAnswer};
+ghost use Rattle.seal_judging.specs.Judging.{sealing_answer};
 ghost use Rattle.c_forms.specs.Promises.{Answers};
-ghost use Rattle.c_seal.specs.Promises.{lengthAlone, DwSeal};
+ghost use Rattle.c_seal.specs.Promises.{length_alone, DwSeal};
 
 use c_forms::acknowledged_by;
 use c_key_record::{KeyRecord, load_keys};
@@ -11,7 +11,7 @@ use seal_judging::Sealing;
 
 // What C is told of a sealing, and the report written where there is a packet.
 fn report_sealing(answer: Sealing, report: &mut [u64; 1]) -> u32
-    ensures { Answers (sealingAnswer answer) lengthAlone report.old result report.new }
+    ensures { Answers (sealing_answer answer) length_alone report.old result report.new }
 {
     match answer {
         Sealing::Refused(why) => why as u32,
@@ -36,7 +36,7 @@ pub fn seal(
     out: &mut [u8],
     report: &mut [u64; 1],
 ) -> u32
-    ensures { DwSeal keys.now any_acknowledged acknowledged (record { destination = destination.entry.now; source = source.now; token = holding token.now; payload = payload.now; packetNumber = number; numberLength = length }) report.old result report.new out.old out.new }
+    ensures { DwSeal keys.now any_acknowledged acknowledged (record { destination = destination.entry.now; source = source.now; token = holding token.now; payload = payload.now; packet_number = number; number_length = length }) report.old result report.new out.old out.new }
 {
     let answer = seal::seal(
         load_keys(*keys),
@@ -65,7 +65,7 @@ pub fn seal_long(
     out: &mut [u8],
     report: &mut [u64; 1],
 ) -> u32
-    ensures { DwSeal keys.now any_acknowledged acknowledged (record { destination = destination.entry.now; source = source.now; token = absent; payload = payload.now; packetNumber = number; numberLength = length }) report.old result report.new out.old out.new }
+    ensures { DwSeal keys.now any_acknowledged acknowledged (record { destination = destination.entry.now; source = source.now; token = absent; payload = payload.now; packet_number = number; number_length = length }) report.old result report.new out.old out.new }
 {
     let answer = seal::seal_long(
         load_keys(*keys),

@@ -9,19 +9,19 @@ use lib.Dec.{eqb}
 use lib.ListN.{length, get_or}
 use Rattle.octets.specs.Octets.{part}
 use Rattle.digits_reading.specs.Digits.{Decoded}
-use Rattle.terminal_words.specs.Words.{wordCount}
+use Rattle.terminal_words.specs.Words.{word_count}
 use Rattle.console.specs.Answers.{inside}
-use Rattle.console.specs.Files.{isComment}
+use Rattle.console.specs.Files.{is_comment}
 
 -- ---- a comment
 module _ (t : List ℕ) where
-  pub comment-blank : wordCount 32 t ≡ 0 → isComment t ≡ true
-  unfolding isComment
-  comment-blank h = simp (eq-eqb (wordCount 32 t) 0 h)
+  pub comment-blank : word_count 32 t ≡ 0 → is_comment t ≡ true
+  unfolding is_comment
+  comment-blank h = simp (eq-eqb (word_count 32 t) 0 h)
 
-  pub comment-by : (wordCount 32 t ≡ 0 → ⊥) → isComment t ≡ eqb (get_or t 0 0) 35
-  unfolding isComment
-  comment-by h = simp (ne_eqb (wordCount 32 t) 0 h)
+  pub comment-by : (word_count 32 t ≡ 0 → ⊥) → is_comment t ≡ eqb (get_or t 0 0) 35
+  unfolding is_comment
+  comment-by h = simp (ne_eqb (word_count 32 t) 0 h)
 
 -- ---- a part of a buffer
 module _ (d : List ℕ) (at n : ℕ) where

@@ -9,7 +9,7 @@ abbrev pub dash : List ℕ
 dash = ascii "-"
 
 -- a number that was read, and 0 where there is none
-abbrev pub valueOr0 : Number → ℕ
-valueOr0 (Value n) = n
-valueOr0 NoNumber = 0
-valueOr0 TooLarge = 0
+abbrev pub value_or0 : Number → ℕ
+value_or0 (Value n) = n
+value_or0 NoNumber = 0
+value_or0 TooLarge = 0

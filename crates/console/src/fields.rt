@@ -4,7 +4,7 @@ ghost use Rattle.io.specs.Counts.{IsPrefixLen};
 ghost use Rattle.digits_numbers.specs.Numbers.{number_of};
 ghost use Rattle.digits_reading.specs.Digits.{Decoded};
 ghost use Rattle.terminal_words.specs.Words.{word_of};
-ghost use Rattle.console.specs.Fields.{valueOr0};
+ghost use Rattle.console.specs.Fields.{value_or0};
 
 use digits_numbers::{Number, read_number};
 use digits_reading::decode;
@@ -15,7 +15,7 @@ pub const END: u8 = 0;
 
 // The number that a text spells, and 0 where it spells none.
 pub fn value(text: &[u8]) -> u64
-    ensures { result ≡ valueOr0 (number_of text.now) }
+    ensures { result ≡ value_or0 (number_of text.now) }
 {
     match read_number(text) {
         Number::Value(value) => value,
@@ -26,7 +26,7 @@ pub fn value(text: &[u8]) -> u64
 
 // The number that a word of a call spells, and 0 where it spells none.
 pub fn number(line: &[u8], index: usize) -> u64
-    ensures { result ≡ valueOr0 (number_of (word_of 0 line.now index)) }
+    ensures { result ≡ value_or0 (number_of (word_of 0 line.now index)) }
 {
     value(word(line, index, END))
 }

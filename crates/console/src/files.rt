@@ -2,7 +2,7 @@
 ghost use Rattle.std.specs.Prelude.{true, ◌≡◌, ◌+◌, ◌-◌, ◌^◌, min, pos};
 ghost use Rattle.octets.specs.Octets as Octets;
 ghost use Rattle.console.specs.Fields.{dash};
-ghost use Rattle.console.specs.Files.{isComment};
+ghost use Rattle.console.specs.Files.{is_comment};
 
 use libc::STDIN_FILENO;
 use terminal_words::{count, same};
@@ -25,7 +25,7 @@ pub fn open(path: &[u8]) -> i32
 
 // Whether a line is a comment, or has no word.
 pub fn is_comment(text: &[u8]) -> bool
-    ensures { result ≡ isComment text.now }
+    ensures { result ≡ is_comment text.now }
 {
     if count(text, b' ') == 0 {
         return true;

@@ -1,7 +1,7 @@
 // A call, as a line of words, judged by the manual: a line for each command, with a name for each word behind it.
 ghost use Rattle.std.specs.Prelude.{true, ◌≡◌};
-ghost use Rattle.terminal_words.specs.Words.{wordsFrom};
-ghost use Rattle.console_calls.specs.Calls.{areRight, usageOf, enough, wellMade};
+ghost use Rattle.terminal_words.specs.Words.{words_from};
+ghost use Rattle.console_calls.specs.Calls.{are_right, usage_of, enough, well_made};
 
 use console::fields::END;
 use console_keys::is_asked;
@@ -20,7 +20,7 @@ FILE has a datagram, or a call for a script, on each line; # starts a comment; -
 
 // The manual's line on a command, and nothing where there is none.
 fn usage_of<'a>(manual: &'a [u8], command: &[u8]) -> &'a [u8]
-    ensures { result.now ≡ usageOf manual.now command.now }
+    ensures { result.now ≡ usage_of manual.now command.now }
 {
     let lines = count(manual, b'\n');
     let mut i: usize = 0;
@@ -61,7 +61,7 @@ fn are_enough(line: &[u8], usage: &[u8]) -> bool
 // Whether each word behind the command is what the manual's name for it asks.
 fn are_right(line: &[u8], usage: &[u8]) -> bool
     requires { enough line.now usage.now ≡ true }
-    ensures { result ≡ areRight (wordsFrom 0 line.now 1) (wordsFrom 32 usage.now 2) }
+    ensures { result ≡ are_right (words_from 0 line.now 1) (words_from 32 usage.now 2) }
 {
     let given = count(line, END);
     let mut i: usize = 1;
@@ -85,7 +85,7 @@ fn unknown(command: &[u8]) {
 
 // Whether a call is as the manual has it; where not, it is said what is wrong, and how it is made.
 pub fn is_well_made(line: &[u8], manual: &[u8]) -> bool
-    ensures { result ≡ wellMade line.now manual.now }
+    ensures { result ≡ well_made line.now manual.now }
 {
     let command = word(line, 0, END);
     let usage = usage_of(manual, command);

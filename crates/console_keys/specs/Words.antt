@@ -2,24 +2,24 @@
 use Rattle.std.specs.Prelude.{ℕ, Bool, cond, ◌&&◌, ◌||◌, List, eqb, length}
 use Rattle.octets.specs.Octets.{same}
 use Rattle.octets.specs.Text.{ascii}
-use Rattle.terminal_words.specs.Words.{word_of, wordCount}
-use Rattle.console_words.specs.Words.{isHex, isRight}
+use Rattle.terminal_words.specs.Words.{word_of, word_count}
+use Rattle.console_words.specs.Words.{is_hex, is_right}
 
 -- whether it names a level
-unfoldable pub isLevel : List ℕ → Bool
-isLevel t = same t (ascii "initial") || (same t (ascii "0-rtt") || same t (ascii "handshake"))
+unfoldable pub is_level : List ℕ → Bool
+is_level t = same t (ascii "initial") || (same t (ascii "0-rtt") || same t (ascii "handshake"))
 
 -- whether it is a secret: 32 bytes, two hex digits each
-unfoldable pub isSecret : List ℕ → Bool
-isSecret t = eqb (length t) 64 && isHex t
+unfoldable pub is_secret : List ℕ → Bool
+is_secret t = eqb (length t) 64 && is_hex t
 
 -- whether it is a level and a secret with a colon between them, or else a connection ID
-unfoldable pub isOrigin : List ℕ → Bool
-isOrigin t = cond (eqb (wordCount 58 t) 2) (isLevel (word_of 58 t 0) && isSecret (word_of 58 t 1)) (isHex t)
+unfoldable pub is_origin : List ℕ → Bool
+is_origin t = cond (eqb (word_count 58 t) 2) (is_level (word_of 58 t 0) && is_secret (word_of 58 t 1)) (is_hex t)
 
 -- whether a word is what its name asks
-unfoldable pub isAsked : List ℕ → List ℕ → Bool
-isAsked t name =
-    cond (same name (ascii "LEVEL")) (isLevel t)
-    (cond (same name (ascii "SECRET")) (isSecret t)
-    (cond (same name (ascii "ID|LEVEL:SECRET")) (isOrigin t) (isRight t name)))
+unfoldable pub is_asked : List ℕ → List ℕ → Bool
+is_asked t name =
+    cond (same name (ascii "LEVEL")) (is_level t)
+    (cond (same name (ascii "SECRET")) (is_secret t)
+    (cond (same name (ascii "ID|LEVEL:SECRET")) (is_origin t) (is_right t name)))

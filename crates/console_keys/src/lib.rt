@@ -1,7 +1,7 @@
 // The words of a call that keys come of, judged: a connection ID for Initial keys, and for other levels a level and a secret there
 // (RFC 9001 sections 5.1 and 5.2).
 ghost use Rattle.std.specs.Prelude.{◌≡◌};
-ghost use Rattle.console_keys.specs.Words.{isLevel, isSecret, isOrigin, isAsked};
+ghost use Rattle.console_keys.specs.Words.{is_level, is_secret, is_origin, is_asked};
 
 use console_words::{is_hex, is_right, wrong};
 use terminal_words::{count, same, word};
@@ -11,7 +11,7 @@ const SECRET: usize = 64;
 
 // Whether a word names a level; where not, it is said why.
 fn is_level(text: &[u8]) -> bool
-    ensures { result ≡ isLevel text.now }
+    ensures { result ≡ is_level text.now }
 {
     if same(text, b"initial") {
         return true;
@@ -29,7 +29,7 @@ fn is_level(text: &[u8]) -> bool
 
 // Whether a word is a secret; where not, it is said why.
 fn is_secret(text: &[u8]) -> bool
-    ensures { result ≡ isSecret text.now }
+    ensures { result ≡ is_secret text.now }
 {
     if text.len() == SECRET {
         return is_hex(text, b"SECRET");
@@ -42,7 +42,7 @@ fn is_secret(text: &[u8]) -> bool
 
 // Whether keys come of a word: of a level and a secret with a colon between them, or else of a connection ID; where not, it is said why.
 fn is_origin(text: &[u8]) -> bool
-    ensures { result ≡ isOrigin text.now }
+    ensures { result ≡ is_origin text.now }
 {
     if count(text, b':') != 2 {
         return is_hex(text, b"ID");
@@ -55,7 +55,7 @@ fn is_origin(text: &[u8]) -> bool
 
 // Whether a word is what the manual's name for it asks; where not, it is said why.
 pub fn is_asked(text: &[u8], name: &[u8]) -> bool
-    ensures { result ≡ isAsked text.now name.now }
+    ensures { result ≡ is_asked text.now name.now }
 {
     if same(name, b"LEVEL") {
         return is_level(text);

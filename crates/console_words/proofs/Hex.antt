@@ -8,17 +8,17 @@ use lib.ListN.{length}
 use Rattle.octets.specs.Octets.{same}
 use Rattle.digits_reading.specs.Digits.{run}
 use Rattle.console.specs.Fields.{dash}
-use Rattle.console_words.specs.Words.{isHex}
+use Rattle.console_words.specs.Words.{is_hex}
 
 module _ (t : List ℕ) (h : same t dash ≡ false) where
-  pub hex-not : run 16 t < length t → isHex t ≡ false
-  unfolding isHex
+  pub hex-not : run 16 t < length t → is_hex t ≡ false
+  unfolding is_hex
   hex-not l = simp (h, lt-leb (length t) (run 16 t) l)
 
-  pub hex-odd : length t ≤ run 16 t → (length t % 2 ≡ 0 → ⊥) → isHex t ≡ false
-  unfolding isHex
+  pub hex-odd : length t ≤ run 16 t → (length t % 2 ≡ 0 → ⊥) → is_hex t ≡ false
+  unfolding is_hex
   hex-odd l o = simp (h, le-leb (length t) (run 16 t) l, ne_eqb (length t % 2) 0 o)
 
-  pub hex-even : length t ≤ run 16 t → length t % 2 ≡ 0 → isHex t ≡ true
-  unfolding isHex
+  pub hex-even : length t ≤ run 16 t → length t % 2 ≡ 0 → is_hex t ≡ true
+  unfolding is_hex
   hex-even l o = simp (h, le-leb (length t) (run 16 t) l, eq-eqb (length t % 2) 0 o)

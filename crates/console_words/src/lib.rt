@@ -1,6 +1,6 @@
 // A word of a call, judged by the name that the manual has for it.
 ghost use Rattle.std.specs.Prelude.{◌≡◌};
-ghost use Rattle.console_words.specs.Words.{isHex, is_number, isSide, isCount, isRight};
+ghost use Rattle.console_words.specs.Words.{is_hex, is_number, is_side, is_count, is_right};
 
 use digits_numbers::{Number, read_number};
 use digits_reading::digits;
@@ -18,7 +18,7 @@ pub fn wrong(name: &[u8]) {
 
 // Whether a word is hex, or the mark for nothing; where not, it is said why.
 pub fn is_hex(text: &[u8], name: &[u8]) -> bool
-    ensures { result ≡ isHex text.now }
+    ensures { result ≡ is_hex text.now }
 {
     if same(text, b"-") {
         return true;
@@ -68,7 +68,7 @@ fn is_number(text: &[u8], name: &[u8], largest: u64) -> bool
 
 // Whether a word names a side; where not, it is said why.
 fn is_side(text: &[u8], name: &[u8]) -> bool
-    ensures { result ≡ isSide text.now }
+    ensures { result ≡ is_side text.now }
 {
     if same(text, b"client") {
         return true;
@@ -83,7 +83,7 @@ fn is_side(text: &[u8], name: &[u8]) -> bool
 
 // Whether a name of the manual asks for a number.
 fn is_count(name: &[u8]) -> bool
-    ensures { result ≡ isCount name.now }
+    ensures { result ≡ is_count name.now }
 {
     if same(name, b"NUMBER") {
         return true;
@@ -99,7 +99,7 @@ fn is_count(name: &[u8]) -> bool
 
 // Whether a word is what the manual's name for it asks; where not, it is said why.
 pub fn is_right(text: &[u8], name: &[u8]) -> bool
-    ensures { result ≡ isRight text.now name.now }
+    ensures { result ≡ is_right text.now name.now }
 {
     if same(name, b"VERSION") {
         return is_number(text, name, VERSIONS);

@@ -11,24 +11,24 @@ use lib.Seq.{paste}
 use Rattle.octets.proofs.Buffers.{lay-turn}
 use Rattle.octets.specs.Octets.{Bytes}
 use Rattle.digits_reading.specs.Digits.{value_of, pair, pairs}
-use Rattle.digits_writing.specs.Hex.{digitOf, hex}
+use Rattle.digits_writing.specs.Hex.{digit_of, hex}
 use Rattle.digits_reading.proofs.Values.{at-digit, at-letter}
 
 -- ---- a digit
 module _ (v : ℕ) where
-  pub low_digit : v < 10 → digitOf v ≡ 48 + v
-  unfolding digitOf
+  pub low_digit : v < 10 → digit_of v ≡ 48 + v
+  unfolding digit_of
   low_digit h = rw (lt-ltb v 10 h)
 
-  pub high_digit : 10 ≤ v → digitOf v ≡ 87 + v
-  unfolding digitOf
+  pub high_digit : 10 ≤ v → digit_of v ≡ 87 + v
+  unfolding digit_of
   high_digit h = rw (le-ltb v 10 h)
 
 -- a digit's value is what it was made of
-pub value-back : (v : ℕ) → v < 16 → value_of (digitOf v) ≡ v
+pub value-back : (v : ℕ) → v < 16 → value_of (digit_of v) ≡ v
 value-back v h = by (ltb v 10) refl
   where
-    by : (t : Bool) → ltb v 10 ≡ t → value_of (digitOf v) ≡ v
+    by : (t : Bool) → ltb v 10 ≡ t → value_of (digit_of v) ≡ v
     by true p = rw (low_digit v (ltb-true v 10 p), at-digit (48 + v) (omega arith) (omega (arith, ltb-true v 10 p))) (omega arith)
     by false p = rw (high_digit v (ltb-false v 10 p), at-letter (87 + v) (omega (arith, ltb-false v 10 p)) (omega arith)) (omega arith)
 
@@ -40,7 +40,7 @@ hex-length (b ∷ s) = let e : length (hex s) ≡ 2 * length s = hex-length s in
 
 -- characters 2 i and 2 i + 1 are byte i's
 pub hex-at : (s : List ℕ) (i : ℕ) → i < length s
-    → (get_or (hex s) (2 * i) 0 ≡ digitOf (get_or s i 0 / 16)) × (get_or (hex s) (2 * i + 1) 0 ≡ digitOf (get_or s i 0 % 16))
+    → (get_or (hex s) (2 * i) 0 ≡ digit_of (get_or s i 0 / 16)) × (get_or (hex s) (2 * i + 1) 0 ≡ digit_of (get_or s i 0 % 16))
 unfolding hex
 hex-at [] i h = absurd (omega arith)
 hex-at (b ∷ s) zero h = (refl, refl)
@@ -58,7 +58,7 @@ decoded-back (b ∷ s) small =
     let byte : b < 256 = small 0 in
     let high = value-back (b / 16) (omega arith) in
     let low = value-back (b % 16) (omega arith) in
-    let whole : pair (digitOf (b / 16)) (digitOf (b % 16)) ≡ b = rw (high, low) (omega arith) in
+    let whole : pair (digit_of (b / 16)) (digit_of (b % 16)) ≡ b = rw (high, low) (omega arith) in
     ap₂ (λ (x : ℕ) (xs : List ℕ). x ∷ xs) whole (decoded-back s (λ i. small (suc i)))
 
 -- two characters laid over a buffer's start, a byte's

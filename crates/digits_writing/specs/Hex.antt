@@ -3,13 +3,13 @@ use Rattle.std.specs.Prelude.{ℕ, ◌+◌, ◌*◌, ◌/◌, ◌%◌, min, ◌�
 use Rattle.octets.specs.Octets.{begun}
 
 -- the hex digit of a number below 16, in lower case
-unfoldable pub digitOf : ℕ → ℕ
-digitOf v = cond (ltb v 10) (48 + v) (87 + v)
+unfoldable pub digit_of : ℕ → ℕ
+digit_of v = cond (ltb v 10) (48 + v) (87 + v)
 
 -- two hex digits for each byte
 unfoldable pub hex : List ℕ → List ℕ
 hex [] = []
-hex (b ∷ s) = digitOf (b / 16) ∷ digitOf (b % 16) ∷ hex s
+hex (b ∷ s) = digit_of (b / 16) ∷ digit_of (b % 16) ∷ hex s
 
 -- what encoding leaves in a buffer, and answers
 pub record Encoded (s before after : List ℕ) (count : ℕ) : Type 0 where

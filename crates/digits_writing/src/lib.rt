@@ -1,14 +1,14 @@
 // Digits written: the hex digits of bytes.
 ghost use Rattle.std.specs.Prelude.{◌≡◌, ◌<◌};
 ghost use Rattle.io.specs.Counts.{IsPrefixLen};
-ghost use Rattle.digits_writing.specs.Hex.{digitOf, Encoded};
+ghost use Rattle.digits_writing.specs.Hex.{digit_of, Encoded};
 
 use digits_reading::least;
 
 // The hex digit of a number below 16, in lower case.
 fn digit(value: u8) -> u8
     requires { value < 16 }
-    ensures { result ≡ digitOf value }
+    ensures { result ≡ digit_of value }
 {
     if value < 10 {
         return b'0' + value;

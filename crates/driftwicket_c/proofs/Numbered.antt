@@ -8,25 +8,25 @@ use Rattle.octets.specs.Outcome.{refused, given, ◌>>=◌}
 use Rattle.octets.specs.Octets.{number, part, same}
 use Rattle.integers.specs.Integer.{integer}
 use Rattle.numbers.specs.Numbers.{numbers, window, half}
-use Rattle.numbers_shortening.specs.Shortening.{Acknowledged, nothing, up_to, coverable, ahead, gap, smallestLength, shortened}
+use Rattle.numbers_shortening.specs.Shortening.{Acknowledged, nothing, up_to, coverable, ahead, gap, smallest_length, shortened}
 use Rattle.numbers_recovery.specs.Recovery.{decoded, recovered}
-use Rattle.versions.specs.Levels.{initial, zeroRtt, handshake, hasToken}
-use Rattle.versions.specs.Versions.{Version, known, version, levelOf}
-use Rattle.header_fields.specs.Fields.{longestId, leastLength, tagLength, behind, id_at, integerAt, field_at, rest_at}
+use Rattle.versions.specs.Levels.{initial, zero_rtt, handshake, has_token}
+use Rattle.versions.specs.Versions.{Version, known, version, level_of}
+use Rattle.header_fields.specs.Fields.{longest_id, least_length, tag_length, behind, id_at, integer_at, field_at, rest_at}
 use Rattle.header_forms.specs.Rules.{Rules}
-use Rattle.header_forms.specs.Forms.{Form, longForm, reservedBits, formed}
+use Rattle.header_forms.specs.Forms.{Form, long_form, reserved_bits, formed}
 use Rattle.header_long.specs.LongHeader as LongHeader
-use Rattle.header_long.specs.LongHeader.{Judge, ofAnyLevel, onlyLevel, onlyRetry, versionOf, long}
+use Rattle.header_long.specs.LongHeader.{Judge, of_any_level, only_level, only_retry, version_of, long}
 use Rattle.header_reading.specs.PacketHeader as PacketHeader
-use Rattle.header_reading.specs.PacketHeader.{header, anyHeader}
+use Rattle.header_reading.specs.PacketHeader.{header, any_header}
 use Rattle.header_writing.specs.Written.{writes, Plain}
 use Rattle.protection.specs.Suite.{Suite}
-use Rattle.protection.specs.Protection.{Keys, nonce, onFirst, onNumber}
+use Rattle.protection.specs.Protection.{Keys, nonce, on_first, on_number}
 use Rattle.protection.specs.Clear.{mask_of, Revealed, revealed, decrypted, unprotected}
-use Rattle.packets.specs.Packet.{packetOf, sealed, ofKeys, opened}
-use Rattle.retry_tag.specs.Tag.{retryTag, tagged}
-use Rattle.retry_writing.specs.Written.{untagged, retryWritten}
-use Rattle.retry_checking.specs.Retry.{tokenAt, retries, retryHeader, retryChecked}
+use Rattle.packets.specs.Packet.{packet_of, sealed, of_keys, opened}
+use Rattle.retry_tag.specs.Tag.{retry_tag, tagged}
+use Rattle.retry_writing.specs.Written.{untagged, retry_written}
+use Rattle.retry_checking.specs.Retry.{token_at, retries, retry_header, retry_checked}
 use Rattle.c_forms.proofs.Numbered.{Numbered, some, numbered, test, tested, judged, stepped}
 
 -- ---- integers and packet numbers
@@ -47,8 +47,8 @@ gap-numbered : (m : ℕ) (a : Acknowledged) → Numbered (gap m a)
 unfolding gap
 gap-numbered m a = tested 10 (ltb m numbers) (lit< tt) (ahead-numbered m a)
 
-pub smallest-length-numbered : (m : ℕ) (a : Acknowledged) → Numbered (smallestLength m a)
-unfolding smallestLength
+pub smallest-length-numbered : (m : ℕ) (a : Acknowledged) → Numbered (smallest_length m a)
+unfolding smallest_length
 smallest-length-numbered m a = stepped (gap m a) (gap-numbered m a) (λ g. some)
 
 pub shortened-numbered : (m : ℕ) (a : Acknowledged) (n : ℕ) → Numbered (shortened m a n)
@@ -74,33 +74,33 @@ formed-numbered rules form d =
 abbrev Judging : {A : Type 0} → Judge A → Type 0
 Judging judge = (row : Version) (type : ℕ) → Numbered (judge.kind row type)
 
-level-numbered : (row : Version) (type : ℕ) → Numbered (levelOf row type)
-unfolding levelOf
-level-numbered row type = by (eqb type row.initialType) (eqb type row.zeroRttType) (eqb type row.handshakeType)
+level-numbered : (row : Version) (type : ℕ) → Numbered (level_of row type)
+unfolding level_of
+level-numbered row type = by (eqb type row.initial_type) (eqb type row.zero_rtt_type) (eqb type row.handshake_type)
   where
-    by : (a b c : Bool) → Numbered (cond a (given initial) (cond b (given zeroRtt) (cond c (given handshake) (refused 6))))
+    by : (a b c : Bool) → Numbered (cond a (given initial) (cond b (given zero_rtt) (cond c (given handshake) (refused 6))))
     by true b c = some
     by false true c = some
     by false false true = some
     by false false false = numbered 6 (lit< tt)
 
-only-level-numbered : (level : ℕ) (row : Version) (type : ℕ) → Numbered (onlyLevel level row type)
-unfolding onlyLevel
-only-level-numbered level row type = stepped (levelOf row type) (level-numbered row type) (λ l. tested 6 (eqb l level) (lit< tt) some)
+only-level-numbered : (level : ℕ) (row : Version) (type : ℕ) → Numbered (only_level level row type)
+unfolding only_level
+only-level-numbered level row type = stepped (level_of row type) (level-numbered row type) (λ l. tested 6 (eqb l level) (lit< tt) some)
 
-only-retry-numbered : (row : Version) (type : ℕ) → Numbered (onlyRetry row type)
-unfolding onlyRetry
-only-retry-numbered row type = tested 6 (eqb type row.retryType) (lit< tt) some
+only-retry-numbered : (row : Version) (type : ℕ) → Numbered (only_retry row type)
+unfolding only_retry
+only-retry-numbered row type = tested 6 (eqb type row.retry_type) (lit< tt) some
 
 module _ (d : List ℕ) where
-  version-numbered : Numbered (versionOf d)
-  unfolding versionOf
+  version-numbered : Numbered (version_of d)
+  unfolding version_of
   version-numbered = tested 3 (leb (1 + 4) (length d)) (lit< tt) some
 
   judged-numbered : {A : Type 0} (judge : Judge A) → Judging judge → Numbered (LongHeader.judged judge d)
   unfolding LongHeader.judged
   judged-numbered judge judging =
-      stepped (versionOf d) version-numbered
+      stepped (version_of d) version-numbered
       (λ v. tested 4 (known v && judge.takes v) (lit< tt)
       (stepped (judge.kind (version v) (get_or d 0 0 / 16 % 4)) (judging (version v) (get_or d 0 0 / 16 % 4)) (λ kind. some)))
 
@@ -108,7 +108,7 @@ module _ (d : List ℕ) where
   unfolding id_at
   id-numbered at =
       tested 3 (leb (at + 1) (length d)) (lit< tt)
-      (tested 5 (leb (get_or d at 0) longestId) (lit< tt) (tested 3 (leb (at + 1 + get_or d at 0) (length d)) (lit< tt) some))
+      (tested 5 (leb (get_or d at 0) longest_id) (lit< tt) (tested 3 (leb (at + 1 + get_or d at 0) (length d)) (lit< tt) some))
 
   long-numbered : {A : Type 0} (judge : Judge A) → Judging judge → Numbered (long judge d)
   unfolding long
@@ -116,24 +116,24 @@ module _ (d : List ℕ) where
       stepped (LongHeader.judged judge d) (judged-numbered judge judging)
       (λ j. stepped (id_at d 5) (id-numbered 5) (λ destination. stepped (id_at d (behind destination)) (id-numbered (behind destination)) (λ source. some)))
 
-  integer-at-numbered : (at : ℕ) → Numbered (integerAt d at)
-  unfolding integerAt
+  integer-at-numbered : (at : ℕ) → Numbered (integer_at d at)
+  unfolding integer_at
   integer-at-numbered at = stepped (integer (drop at d)) (integer-numbered (drop at d)) (λ i. some)
 
   field-numbered : (at : ℕ) → Numbered (field_at d at)
   unfolding field_at
   field-numbered at =
-      stepped (integerAt d at) (integer-at-numbered at) (λ field. tested 3 (leb (field.at + field.len) (length d)) (lit< tt) some)
+      stepped (integer_at d at) (integer-at-numbered at) (λ field. tested 3 (leb (field.at + field.len) (length d)) (lit< tt) some)
 
   rest-numbered : (at : ℕ) → Numbered (rest_at d at)
   unfolding rest_at
   rest-numbered at =
-      stepped (integerAt d at) (integer-at-numbered at)
-      (λ rest. tested 7 (leb leastLength rest.len) (lit< tt) (tested 3 (leb (rest.at + rest.len) (length d)) (lit< tt) some))
+      stepped (integer_at d at) (integer-at-numbered at)
+      (λ rest. tested 7 (leb least_length rest.len) (lit< tt) (tested 3 (leb (rest.at + rest.len) (length d)) (lit< tt) some))
 
-  token-at-numbered : (level at : ℕ) → Numbered (PacketHeader.tokenAt level d at)
-  unfolding PacketHeader.tokenAt
-  token-at-numbered level at = by (hasToken level)
+  token-at-numbered : (level at : ℕ) → Numbered (PacketHeader.token_at level d at)
+  unfolding PacketHeader.token_at
+  token-at-numbered level at = by (has_token level)
     where
       by : (has : Bool) → Numbered {A = PacketHeader.Token} (cond has (field_at d at >>= λ f. given (record { place = f; end = behind f })) (given (record { place = record { at = 0; len = 0 }; end = at })))
       by true = stepped (field_at d at) (field-numbered at) (λ f. some)
@@ -143,14 +143,14 @@ module _ (d : List ℕ) where
   unfolding header
   header-numbered judge judging =
       stepped (long judge d) (long-numbered judge judging)
-      (λ l. stepped (PacketHeader.tokenAt l.kind d (behind l.source)) (token-at-numbered l.kind (behind l.source))
+      (λ l. stepped (PacketHeader.token_at l.kind d (behind l.source)) (token-at-numbered l.kind (behind l.source))
       (λ token. stepped (rest_at d token.end) (rest-numbered token.end) (λ rest. some)))
 
-pub any-header-numbered : (rules : Rules) (d : List ℕ) → Numbered (anyHeader rules d)
-unfolding anyHeader
+pub any-header-numbered : (rules : Rules) (d : List ℕ) → Numbered (any_header rules d)
+unfolding any_header
 any-header-numbered rules d =
-    judged (formed rules longForm d) (formed-numbered rules longForm d)
-    (header-numbered d (ofAnyLevel (λ v. true)) level-numbered)
+    judged (formed rules long_form d) (formed-numbered rules long_form d)
+    (header-numbered d (of_any_level (λ v. true)) level-numbered)
 
 -- ---- sealing and opening
 module _ (suite : Suite) (rules : Rules) (k : Keys) where
@@ -159,26 +159,26 @@ module _ (suite : Suite) (rules : Rules) (k : Keys) where
   sealed-numbered a p room =
       tested 4 (known k.version) (lit< tt)
       (tested 6 (writes p.token k.level) (lit< tt)
-      (stepped (shortened p.packetNumber a p.numberLength) (shortened-numbered p.packetNumber a p.numberLength)
-      (λ short. tested 5 (leb (length p.destination) longestId && leb (length p.source) longestId) (lit< tt)
-      (tested 7 (leb 4 (p.numberLength + length p.payload)) (lit< tt)
-      (tested 1 (leb (length (packetOf suite rules k p)) rules.limit) (lit< tt)
-      (tested 8 (leb (length (packetOf suite rules k p)) room) (lit< tt) some))))))
+      (stepped (shortened p.packet_number a p.number_length) (shortened-numbered p.packet_number a p.number_length)
+      (λ short. tested 5 (leb (length p.destination) longest_id && leb (length p.source) longest_id) (lit< tt)
+      (tested 7 (leb 4 (p.number_length + length p.payload)) (lit< tt)
+      (tested 1 (leb (length (packet_of suite rules k p)) rules.limit) (lit< tt)
+      (tested 8 (leb (length (packet_of suite rules k p)) room) (lit< tt) some))))))
 
   revealed-numbered : (form : Form) (e : ℕ) (packet : List ℕ) (at : ℕ) → Numbered (revealed suite form k.hp e packet at)
   unfolding revealed
   revealed-numbered form e packet at =
       let mask = mask_of suite k.hp packet at in
-      let first = onFirst form mask (get_or packet 0 0) in
+      let first = on_first form mask (get_or packet 0 0) in
       let n = first % 4 + 1 in
-      tested 9 (eqb (reservedBits form first) 0) (lit< tt) (tested 10 (ltb (decoded e (number (onNumber mask (part packet at n))) n) numbers) (lit< tt) some)
+      tested 9 (eqb (reserved_bits form first) 0) (lit< tt) (tested 10 (ltb (decoded e (number (on_number mask (part packet at n))) n) numbers) (lit< tt) some)
 
   decrypted-numbered : (packet : List ℕ) (at : ℕ) (r : Revealed) → Numbered (decrypted suite k.key k.iv packet at r)
   unfolding decrypted
   decrypted-numbered packet at r =
-      let body = drop (at + r.numberLength) packet in
+      let body = drop (at + r.number_length) packet in
       let plain : List ℕ = r.first ∷ part packet 1 (at - 1) ++ r.short in
-      tested 11 (same (drop (length body - tagLength) body) (suite.tag k.key (nonce k.iv r.packetNumber) plain (take (length body - tagLength) body))) (lit< tt)
+      tested 11 (same (drop (length body - tag_length) body) (suite.tag k.key (nonce k.iv r.packet_number) plain (take (length body - tag_length) body))) (lit< tt)
       some
 
   unprotected-numbered : (form : Form) (e : ℕ) (packet : List ℕ) (at : ℕ) → Numbered (unprotected suite form k e packet at)
@@ -191,36 +191,36 @@ module _ (suite : Suite) (rules : Rules) (k : Keys) where
   opened-numbered e d room =
       tested 10 (leb e numbers) (lit< tt)
       (tested 4 (known k.version) (lit< tt)
-      (judged (formed rules longForm d) (formed-numbered rules longForm d)
-      (stepped (header (ofKeys k) d) (header-numbered d (ofKeys k) (only-level-numbered k.level))
-      (λ h. tested 8 (leb (length (take (h.numberAt + h.length') d) - tagLength) room) (lit< tt)
-      (unprotected-numbered longForm e (take (h.numberAt + h.length') d) h.numberAt)))))
+      (judged (formed rules long_form d) (formed-numbered rules long_form d)
+      (stepped (header (of_keys k) d) (header-numbered d (of_keys k) (only-level-numbered k.level))
+      (λ h. tested 8 (leb (length (take (h.number_at + h.length') d) - tag_length) room) (lit< tt)
+      (unprotected-numbered long_form e (take (h.number_at + h.length') d) h.number_at)))))
 
 -- ---- Retry
-pub retry-written-numbered : (rules : Rules) (v : ℕ) (original destination source token : List ℕ) (low room : ℕ) → Numbered (retryWritten rules v original destination source token low room)
-unfolding retryWritten
+pub retry-written-numbered : (rules : Rules) (v : ℕ) (original destination source token : List ℕ) (low room : ℕ) → Numbered (retry_written rules v original destination source token low room)
+unfolding retry_written
 retry-written-numbered rules v original destination source token low room =
     let packet = tagged v original (untagged v destination source token low) in
     tested 4 (known v) (lit< tt)
-    (tested 5 (leb (length original) longestId) (lit< tt)
-    (tested 5 (leb (length destination) longestId) (lit< tt)
-    (tested 5 (leb (length source) longestId) (lit< tt)
+    (tested 5 (leb (length original) longest_id) (lit< tt)
+    (tested 5 (leb (length destination) longest_id) (lit< tt)
+    (tested 5 (leb (length source) longest_id) (lit< tt)
     (tested 13 (leb 1 (length token)) (lit< tt)
     (tested 1 (leb (length packet) rules.limit) (lit< tt) (tested 8 (leb (length packet) room) (lit< tt) some))))))
 
-token-numbered : (d : List ℕ) (at : ℕ) → Numbered (tokenAt d at)
-unfolding tokenAt
-token-numbered d at = tested 3 (leb (at + tagLength) (length d)) (lit< tt) (tested 13 (leb 1 (length d - at - tagLength)) (lit< tt) some)
+token-numbered : (d : List ℕ) (at : ℕ) → Numbered (token_at d at)
+unfolding token_at
+token-numbered d at = tested 3 (leb (at + tag_length) (length d)) (lit< tt) (tested 13 (leb 1 (length d - at - tag_length)) (lit< tt) some)
 
-retry-header-numbered : (rules : Rules) (d : List ℕ) → Numbered (retryHeader rules d)
-unfolding retryHeader
+retry-header-numbered : (rules : Rules) (d : List ℕ) → Numbered (retry_header rules d)
+unfolding retry_header
 retry-header-numbered rules d =
-    judged (formed rules longForm d) (formed-numbered rules longForm d) (long-numbered d retries only-retry-numbered)
+    judged (formed rules long_form d) (formed-numbered rules long_form d) (long-numbered d retries only-retry-numbered)
 
-pub retry-checked-numbered : (rules : Rules) (original d : List ℕ) → Numbered (retryChecked rules original d)
-unfolding retryChecked
+pub retry-checked-numbered : (rules : Rules) (original d : List ℕ) → Numbered (retry_checked rules original d)
+unfolding retry_checked
 retry-checked-numbered rules original d =
-    tested 5 (leb (length original) longestId) (lit< tt)
-    (stepped (retryHeader rules d) (retry-header-numbered rules d)
-    (λ l. stepped (tokenAt d (behind l.source)) (token-numbered d (behind l.source))
-    (λ token. tested 11 (same (drop (behind token) d) (retryTag l.version original (take (behind token) d))) (lit< tt) some)))
+    tested 5 (leb (length original) longest_id) (lit< tt)
+    (stepped (retry_header rules d) (retry-header-numbered rules d)
+    (λ l. stepped (token_at d (behind l.source)) (token-numbered d (behind l.source))
+    (λ token. tested 11 (same (drop (behind token) d) (retry_tag l.version original (take (behind token) d))) (lit< tt) some)))

@@ -13,7 +13,7 @@ use Rattle.c_header.specs.Promises.{DwReadHeader}
 use Rattle.c_retry.specs.Promises.{DwWriteRetry, DwCheckRetry}
 
 module _ {before : List ℕ} {r r' : ℕ} {report report' : List ℕ} where
-  answers-once : {A : Type 0} {o : Outcome A} {reportOf : A → List ℕ} → Answers o reportOf before r report → Answers o reportOf before r' report' → (r ≡ r') × (report ≡ report')
+  answers-once : {A : Type 0} {o : Outcome A} {report_of : A → List ℕ} → Answers o report_of before r report → Answers o report_of before r' report' → (r ≡ r') × (report ≡ report')
   answers-once a b = (a.answer ∙ sym b.answer, a.reported ∙ sym b.reported)
 
   writes-once : {o : Outcome (List ℕ)} {buffer then then' : List ℕ} → Writes o before r report buffer then → Writes o before r' report' buffer then'

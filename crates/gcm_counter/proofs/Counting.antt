@@ -7,7 +7,7 @@ use Rattle.octets.proofs.Xor.{xor-length, xor-append}
 use Rattle.octets.proofs.Buffers.{laid_more, laid_none, laid-two}
 use Rattle.aes_byte_rounds.specs.Cipher.{encrypted}
 use Rattle.aes_byte_rounds.proofs.Laws.{encrypted-length}
-use Rattle.gcm_counter.specs.Counter.{inc32, keyStream, gctr, j0}
+use Rattle.gcm_counter.specs.Counter.{inc32, key_stream, gctr, j0}
 use Rattle.gcm_counter.proofs.Lists.{piece-take, piece-drop}
 
 -- ---- the counter blocks
@@ -38,15 +38,15 @@ unfolding j0
 first_block nonce l = next-block nonce 1 2 l refl
 
 -- section 6.5: two blocks of the key stream
-pub masks-are : (schedule counter one two : List ℕ) {r : List ℕ} → r ≡ encrypted schedule one ++ encrypted schedule two → one ≡ counter → two ≡ inc32 counter → r ≡ keyStream schedule 2 counter
-unfolding keyStream
+pub masks-are : (schedule counter one two : List ℕ) {r : List ℕ} → r ≡ encrypted schedule one ++ encrypted schedule two → one ≡ counter → two ≡ inc32 counter → r ≡ key_stream schedule 2 counter
+unfolding key_stream
 masks-are schedule counter one two e is next =
     rw (e, is, next, append-nil (encrypted schedule (inc32 counter)))
 
-pub masks-length : (schedule counter : List ℕ) → length (keyStream schedule 2 counter) ≡ 32
-unfolding keyStream
+pub masks-length : (schedule counter : List ℕ) → length (key_stream schedule 2 counter) ≡ 32
+unfolding key_stream
 masks-length schedule counter =
-    length-append (encrypted schedule counter) (keyStream schedule 1 (inc32 counter))
+    length-append (encrypted schedule counter) (key_stream schedule 1 (inc32 counter))
     ∙ ap₂ (λ (m n : ℕ). m + n) (encrypted-length schedule counter) (ap length (append-nil (encrypted schedule (inc32 counter))) ∙ encrypted-length schedule (inc32 counter))
 
 -- ---- a block and the rest
@@ -56,13 +56,13 @@ gctr-none schedule counter = refl
 
 gctr-block : (schedule counter t : List ℕ) → 0 < length t
     → gctr schedule counter t ≡ xor (take 16 t) (encrypted schedule counter) ++ gctr schedule (inc32 counter) (drop 16 t)
-unfolding gctr keyStream
+unfolding gctr key_stream
 gctr-block schedule counter t l =
     let n : ℕ = (length (drop 16 t) + 15) / 16 in
     let count : (length t + 15) / 16 ≡ suc n = omega (arith, length-drop 16 t) in
     let mask : List ℕ = encrypted schedule counter in
-    let rest : List ℕ = keyStream schedule n (inc32 counter) in
-    ap (λ (m : ℕ). xor t (keyStream schedule m counter)) count
+    let rest : List ℕ = key_stream schedule n (inc32 counter) in
+    ap (λ (m : ℕ). xor t (key_stream schedule m counter)) count
     ∙ xor-append t mask rest
     ∙ ap (λ (m : ℕ). xor (take m t) mask ++ xor (drop m t) rest) (encrypted-length schedule counter)
 
@@ -72,8 +72,8 @@ gctr-any schedule counter [] = gctr-none schedule counter ∙ sym (gctr-none sch
 gctr-any schedule counter (x ∷ t) = gctr-block schedule counter (x ∷ t) (omega arith)
 
 gctr-two : (schedule counter t : List ℕ)
-    → gctr schedule counter t ≡ xor (take 32 t) (keyStream schedule 2 counter) ++ gctr schedule (inc32 (inc32 counter)) (drop 32 t)
-unfolding keyStream
+    → gctr schedule counter t ≡ xor (take 32 t) (key_stream schedule 2 counter) ++ gctr schedule (inc32 (inc32 counter)) (drop 32 t)
+unfolding key_stream
 gctr-two schedule counter t =
     let one : List ℕ = encrypted schedule counter in
     let two : List ℕ = encrypted schedule (inc32 counter) in
@@ -91,11 +91,11 @@ gctr-two schedule counter t =
 -- ---- a turn of the loop, and its end
 module _ (schedule counter source d d' : List ℕ) (at i end : ℕ) (fits : at + length source ≤ length d) (more : i < end) (inside : end ≤ length source)
     (most : end ≤ i + 32) (short : end < i + 32 → end ≡ length source) where
-  pub crypt-turn : d' ≡ laid d (at + i) (xor (take (end - i) (drop i source)) (keyStream schedule 2 counter))
+  pub crypt-turn : d' ≡ laid d (at + i) (xor (take (end - i) (drop i source)) (key_stream schedule 2 counter))
       → laid d' (at + end) (gctr schedule (inc32 (inc32 counter)) (drop end source)) ≡ laid d (at + i) (gctr schedule counter (drop i source))
   crypt-turn e =
       let t : List ℕ = drop i source in
-      let mask : List ℕ = keyStream schedule 2 counter in
+      let mask : List ℕ = key_stream schedule 2 counter in
       let piece : List ℕ = xor (take (end - i) t) mask in
       let rest : List ℕ = gctr schedule (inc32 (inc32 counter)) (drop end source) in
       let left : length t ≡ length source - i = length-drop i source in

@@ -3,7 +3,7 @@ ghost use Rattle.std.specs.Prelude.{◌≡◌, ◌+◌, ◌<◌, ◌≤◌, ◌+
 ghost use Rattle.octets.specs.Octets.{bytes, laid};
 ghost use Rattle.aes_s_box.specs.Box.{Box};
 ghost use Rattle.aes_word_table.specs.Table.{Mixing};
-ghost use Rattle.gcm_counter.specs.Counter.{j0 as first, keyStream, streamBy};
+ghost use Rattle.gcm_counter.specs.Counter.{j0 as first, key_stream, stream_by};
 
 // The counter block of a number: its last four bytes, behind the nonce.
 fn counter_block(nonce: &[u8], count: u32) -> [u8; 16]
@@ -32,7 +32,7 @@ fn masks(
     count: u32,
 ) -> [u8; 32]
     requires { Mixing mixing.now × Box sbox.now × (length nonce.now ≡ 12) }
-    ensures { result ≡ keyStream schedule.now 2 (nonce.now ++ bytes 4 count) }
+    ensures { result ≡ key_stream schedule.now 2 (nonce.now ++ bytes 4 count) }
 {
     let one = counter_block(nonce, count);
     let two = counter_block(nonce, std::num::wrapping_add_u32(count, 1));
@@ -53,7 +53,7 @@ fn piece_end(at: usize, len: usize) -> usize
 // The source in counter mode, laid over a buffer from `at` on (section 7.1, step 3): as well a plaintext's cipher as a cipher's plaintext.
 pub fn crypt(schedule: &[u8; 176], nonce: &[u8; 12], source: &[u8], buffer: &mut [u8], at: usize)
     requires { at + length source.now ≤ length buffer.old }
-    ensures { buffer.new ≡ laid buffer.old at (streamBy schedule.now nonce.now source.now) }
+    ensures { buffer.new ≡ laid buffer.old at (stream_by schedule.now nonce.now source.now) }
 {
     let mixing = aes_word_table::table();
     let sbox = aes_s_box::table();

@@ -10,7 +10,7 @@ use Rattle.octets.specs.Outcome.{Outcome, refused, given, ◌>>◌}
 use Rattle.octets.specs.Octets.{part}
 use Rattle.octets.proofs.Outcome.{passed, stepped, given-same}
 use Rattle.integers.specs.Integer.{Integer, integer}
-use Rattle.header_fields.specs.Fields.{Place, behind, whole, longestId, leastLength, id_at, integerAt, field_at, rest_at}
+use Rattle.header_fields.specs.Fields.{Place, behind, whole, longest_id, least_length, id_at, integer_at, field_at, rest_at}
 use Rattle.header_fields.specs.Answers.{handed}
 
 -- a field that was looked for from a place on stands behind that place, and all of it within the datagram
@@ -39,41 +39,41 @@ module _ (d : List ℕ) (at : ℕ) where
   unfolding id_at
   id-none h = rw (lt-leb (at + 1) (length d) (omega arith))
 
-  pub id-long : at < length d → longestId < get_or d at 0 → id_at d at ≡ refused 5
+  pub id-long : at < length d → longest_id < get_or d at 0 → id_at d at ≡ refused 5
   unfolding id_at
-  id-long there h = rw (le-leb (at + 1) (length d) (omega arith), lt-leb (get_or d at 0) longestId h)
+  id-long there h = rw (le-leb (at + 1) (length d) (omega arith), lt-leb (get_or d at 0) longest_id h)
 
-  pub id-short : at < length d → get_or d at 0 ≤ longestId → length d < at + 1 + get_or d at 0 → id_at d at ≡ refused 3
+  pub id-short : at < length d → get_or d at 0 ≤ longest_id → length d < at + 1 + get_or d at 0 → id_at d at ≡ refused 3
   unfolding id_at
   id-short there fair h =
-      rw (le-leb (at + 1) (length d) (omega arith), le-leb (get_or d at 0) longestId fair, lt-leb (at + 1 + get_or d at 0) (length d) h)
+      rw (le-leb (at + 1) (length d) (omega arith), le-leb (get_or d at 0) longest_id fair, lt-leb (at + 1 + get_or d at 0) (length d) h)
 
-  pub id-whole : at < length d → get_or d at 0 ≤ longestId → at + 1 + get_or d at 0 ≤ length d
+  pub id-whole : at < length d → get_or d at 0 ≤ longest_id → at + 1 + get_or d at 0 ≤ length d
       → id_at d at ≡ given (record { at = at + 1; len = get_or d at 0 })
   unfolding id_at
   id-whole there fair h =
-      rw (le-leb (at + 1) (length d) (omega arith), le-leb (get_or d at 0) longestId fair, le-leb (at + 1 + get_or d at 0) (length d) h)
+      rw (le-leb (at + 1) (length d) (omega arith), le-leb (get_or d at 0) longest_id fair, le-leb (at + 1 + get_or d at 0) (length d) h)
 
   pub id-within : {p : Place} → given p ≡ id_at d at → Within d at p
   unfolding id_at
   id-within is =
       let there = passed 3 (leb (at + 1) (length d)) _ (sym is) in
-      let fair = passed 5 (leb (get_or d at 0) longestId) _ there.1 in
+      let fair = passed 5 (leb (get_or d at 0) longest_id) _ there.1 in
       let all = whole-given d (record { at = at + 1; len = get_or d at 0 }) fair.1 in
       rw (← all.0) (record { after = omega arith; inside = all.1 })
 
   -- ---- an integer
-  pub integer-refused : {n : ℕ} → refused n ≡ integer (drop at d) → integerAt d at ≡ refused n
-  unfolding integerAt
+  pub integer-refused : {n : ℕ} → refused n ≡ integer (drop at d) → integer_at d at ≡ refused n
+  unfolding integer_at
   integer-refused e = rw (← e)
 
-  pub integer-found : {i : Integer} → given i ≡ integer (drop at d) → integerAt d at ≡ given (record { at = at + i.taken; len = i.value })
-  unfolding integerAt
+  pub integer-found : {i : Integer} → given i ≡ integer (drop at d) → integer_at d at ≡ given (record { at = at + i.taken; len = i.value })
+  unfolding integer_at
   integer-found e = rw (← e)
 
   -- it ends within the datagram
-  pub integer-end : {p : Place} → at ≤ length d → given p ≡ integerAt d at → (at ≤ p.at) × (p.at ≤ length d)
-  unfolding integerAt
+  pub integer-end : {p : Place} → at ≤ length d → given p ≡ integer_at d at → (at ≤ p.at) × (p.at ≤ length d)
+  unfolding integer_at
   integer-end start is =
       let step = stepped (integer (drop at d)) _ (sym is) in
       let ends = ap (λ (p : Place). p.at) (given-same step.2) in
@@ -81,11 +81,11 @@ module _ (d : List ℕ) (at : ℕ) where
       omega (arith, length-drop at d)
 
   -- ---- a length and as many bytes
-  pub field-refused : {n : ℕ} → refused n ≡ integerAt d at → field_at d at ≡ refused n
+  pub field-refused : {n : ℕ} → refused n ≡ integer_at d at → field_at d at ≡ refused n
   unfolding field_at
   field-refused e = rw (← e)
 
-  module _ {p : Place} (is : given p ≡ integerAt d at) where
+  module _ {p : Place} (is : given p ≡ integer_at d at) where
     pub field-short : length d < behind p → field_at d at ≡ refused 3
     unfolding field_at
     field-short h = rw (← is, lt-leb (behind p) (length d) h)
@@ -97,35 +97,35 @@ module _ (d : List ℕ) (at : ℕ) where
   pub field-within : {p : Place} → at ≤ length d → given p ≡ field_at d at → Within d at p
   unfolding field_at
   field-within start is =
-      let step = stepped (integerAt d at) _ (sym is) in
+      let step = stepped (integer_at d at) _ (sym is) in
       let all = whole-given d step.0 step.2 in
       rw (← all.0) (record { after = (integer-end start (sym step.1)).0; inside = all.1 })
 
   -- ---- the rest of the packet
-  pub rest-refused : {n : ℕ} → refused n ≡ integerAt d at → rest_at d at ≡ refused n
+  pub rest-refused : {n : ℕ} → refused n ≡ integer_at d at → rest_at d at ≡ refused n
   unfolding rest_at
   rest-refused e = rw (← e)
 
-  module _ {p : Place} (is : given p ≡ integerAt d at) where
-    pub rest-small : p.len < leastLength → rest_at d at ≡ refused 7
+  module _ {p : Place} (is : given p ≡ integer_at d at) where
+    pub rest-small : p.len < least_length → rest_at d at ≡ refused 7
     unfolding rest_at
-    rest-small h = rw (← is, lt-leb leastLength p.len h)
+    rest-small h = rw (← is, lt-leb least_length p.len h)
 
-    pub rest-short : leastLength ≤ p.len → length d < behind p → rest_at d at ≡ refused 3
+    pub rest-short : least_length ≤ p.len → length d < behind p → rest_at d at ≡ refused 3
     unfolding rest_at
-    rest-short fair h = rw (← is, le-leb leastLength p.len fair, lt-leb (behind p) (length d) h)
+    rest-short fair h = rw (← is, le-leb least_length p.len fair, lt-leb (behind p) (length d) h)
 
-    pub rest-whole : leastLength ≤ p.len → behind p ≤ length d → rest_at d at ≡ given p
+    pub rest-whole : least_length ≤ p.len → behind p ≤ length d → rest_at d at ≡ given p
     unfolding rest_at
-    rest-whole fair h = rw (← is, le-leb leastLength p.len fair, le-leb (behind p) (length d) h)
+    rest-whole fair h = rw (← is, le-leb least_length p.len fair, le-leb (behind p) (length d) h)
 
-  pub rest-within : {p : Place} → at ≤ length d → given p ≡ rest_at d at → Within d at p × (leastLength ≤ p.len)
+  pub rest-within : {p : Place} → at ≤ length d → given p ≡ rest_at d at → Within d at p × (least_length ≤ p.len)
   unfolding rest_at
   rest-within start is =
-      let step = stepped (integerAt d at) _ (sym is) in
-      let fair = passed 7 (leb leastLength step.0.len) _ step.2 in
+      let step = stepped (integer_at d at) _ (sym is) in
+      let fair = passed 7 (leb least_length step.0.len) _ step.2 in
       let all = whole-given d step.0 fair.1 in
-      rw (← all.0) (record { after = (integer-end start (sym step.1)).0; inside = all.1 }, leb-true leastLength step.0.len fair.0)
+      rw (← all.0) (record { after = (integer-end start (sym step.1)).0; inside = all.1 }, leb-true least_length step.0.len fair.0)
 
 -- ---- the part that is handed back
 pub handed-none : {A : Type 0} {o : Outcome A} {n : ℕ} (place : A → Place) (d : List ℕ) → refused n ≡ o → [] ≡ handed o place d

@@ -10,9 +10,9 @@ use Rattle.header_fields.specs.declared.Found.TheVariants as Found
 abbrev pub place_of : Place → Section17.Place
 place_of p = record { at = p.at; len = p.len }
 
-abbrev pub foundAnswer : Found → Outcome Section17.Place
-foundAnswer (Found.Refused n) = refused n
-foundAnswer (Found.At p) = given (place_of p)
+abbrev pub found_answer : Found → Outcome Section17.Place
+found_answer (Found.Refused n) = refused n
+found_answer (Found.At p) = given (place_of p)
 
 -- the part that a reading found, and nothing where it refuses
 abbrev pub handed : {A : Type 0} → Outcome A → (A → Section17.Place) → List ℕ → List ℕ

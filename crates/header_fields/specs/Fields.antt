@@ -4,16 +4,16 @@ use Rattle.octets.specs.Outcome.{Outcome, given, unless, ◌>>=◌, ◌>>◌}
 use Rattle.integers.specs.Integer.{integer}
 
 -- the longest connection ID
-abbrev pub longestId : ℕ
-longestId = 20
+abbrev pub longest_id : ℕ
+longest_id = 20
 
 -- RFC 9001 section 5.3: the tag's length
-abbrev pub tagLength : ℕ
-tagLength = 16
+abbrev pub tag_length : ℕ
+tag_length = 16
 
 -- Length counts a number and payload that reach the sample's end, so 20 bytes at the least
-abbrev pub leastLength : ℕ
-leastLength = 20
+abbrev pub least_length : ℕ
+least_length = 20
 
 -- where something stands in the datagram
 pub record Place : Type 0 where
@@ -32,27 +32,27 @@ unfoldable pub id_at : List ℕ → ℕ → Outcome Place
 id_at d at = do
   whole d at 1
   let len = get_or d at 0
-  unless 5 (leb len longestId)
+  unless 5 (leb len longest_id)
   whole d (at + 1) len
   given (record { at = at + 1; len = len })
 
 -- an integer from a place on: its value, and where it ends
-unfoldable pub integerAt : List ℕ → ℕ → Outcome Place
-integerAt d at = do
+unfoldable pub integer_at : List ℕ → ℕ → Outcome Place
+integer_at d at = do
   i ← integer (drop at d)
   given (record { at = at + i.taken; len = i.value })
 
 -- a length and as many bytes
 unfoldable pub field_at : List ℕ → ℕ → Outcome Place
 field_at d at = do
-  field ← integerAt d at
+  field ← integer_at d at
   whole d field.at field.len
   given field
 
 -- the rest of the packet, behind its Length
 unfoldable pub rest_at : List ℕ → ℕ → Outcome Place
 rest_at d at = do
-  rest ← integerAt d at
-  unless 7 (leb leastLength rest.len)
+  rest ← integer_at d at
+  unless 7 (leb least_length rest.len)
   whole d rest.at rest.len
   given rest

@@ -1,8 +1,8 @@
 // RFC 9000 sections 16 and 17.2: where a field of a long header stands, in the order of docs/SCOPE.md, "Order of refusals".
 ghost use Rattle.std.specs.Prelude.{◌≡◌, ◌+◌, ◌≤◌, length};
 ghost use Rattle.octets.specs.Octets.{part};
-ghost use Rattle.header_fields.specs.Fields.{id_at, integerAt, field_at, rest_at};
-ghost use Rattle.header_fields.specs.Answers.{foundAnswer};
+ghost use Rattle.header_fields.specs.Fields.{id_at, integer_at, field_at, rest_at};
+ghost use Rattle.header_fields.specs.Answers.{found_answer};
 
 use integers::{Integer, read_integer};
 use octets::refusal;
@@ -32,7 +32,7 @@ pub enum Found {
 
 // A length byte and as many bytes: the length is judged before the bytes.
 pub fn id_at(datagram: &[u8], at: usize) -> Found
-    ensures { foundAnswer result ≡ id_at datagram.now at }
+    ensures { found_answer result ≡ id_at datagram.now at }
 {
     if datagram.len() <= at {
         return Found::Refused(refusal::NOT_WHOLE);
@@ -50,7 +50,7 @@ pub fn id_at(datagram: &[u8], at: usize) -> Found
 // An integer from a place on: where it ends, and its value.
 fn integer_at(datagram: &[u8], at: usize) -> Found
     requires { at ≤ length datagram.now }
-    ensures { foundAnswer result ≡ integerAt datagram.now at }
+    ensures { found_answer result ≡ integer_at datagram.now at }
 {
     match read_integer(&datagram[at..]) {
         Integer::Refused(why) => Found::Refused(why),
@@ -64,7 +64,7 @@ fn integer_at(datagram: &[u8], at: usize) -> Found
 // A length and as many bytes.
 pub fn field_at(datagram: &[u8], at: usize) -> Found
     requires { at ≤ length datagram.now }
-    ensures { foundAnswer result ≡ field_at datagram.now at }
+    ensures { found_answer result ≡ field_at datagram.now at }
 {
     let field = match integer_at(datagram, at) {
         Found::Refused(why) => return Found::Refused(why),
@@ -79,7 +79,7 @@ pub fn field_at(datagram: &[u8], at: usize) -> Found
 // The rest of the packet, behind its Length: a Length that is too small is judged before its end.
 pub fn rest_at(datagram: &[u8], at: usize) -> Found
     requires { at ≤ length datagram.now }
-    ensures { foundAnswer result ≡ rest_at datagram.now at }
+    ensures { found_answer result ≡ rest_at datagram.now at }
 {
     let rest = match integer_at(datagram, at) {
         Found::Refused(why) => return Found::Refused(why),

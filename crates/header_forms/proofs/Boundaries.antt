@@ -1,10 +1,10 @@
 -- Each line of the table, by computing it.
 use mathlib.Core.Path.{refl}
-use Rattle.header_forms.specs.Forms.{maskedFirst, reservedBits, formed}
+use Rattle.header_forms.specs.Forms.{masked_first, reserved_bits, formed}
 use Rattle.header_forms.specs.Boundaries.{Table}
 
 pub boundaries : Table
-unfolding maskedFirst reservedBits formed
+unfolding masked_first reserved_bits formed
 boundaries = record {
   four-bits = refl;
   reserved = refl;

@@ -7,8 +7,8 @@ use Rattle.header_forms.specs.declared.Formed.{Formed}
 use Rattle.header_forms.specs.declared.Formed.TheVariants as Formed
 
 abbrev pub form_of : Form → First.Form
-form_of Form.Long = First.longForm
+form_of Form.Long = First.long_form
 
-abbrev pub formedAnswer : Formed → Outcome (Unit {0})
-formedAnswer (Formed.Refused n) = refused n
-formedAnswer Formed.Right = given tt
+abbrev pub formed_answer : Formed → Outcome (Unit {0})
+formed_answer (Formed.Refused n) = refused n
+formed_answer Formed.Right = given tt

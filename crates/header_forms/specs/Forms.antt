@@ -8,21 +8,21 @@ pub record Form : Type 0 where
   -- the form bit and the fixed bit, as a number of two bits
   pub top_bits : ℕ
   -- how many low bits are masked
-  pub maskedBits : ℕ
+  pub masked_bits : ℕ
   -- how many low bits stand below the two reserved ones
-  pub belowReserved : ℕ
+  pub below_reserved : ℕ
 
 -- 0x80 form, 0x40 fixed, 0x30 type, 0x0c reserved, 0x03 number length; the last four bits are masked
-abbrev pub longForm : Form
-longForm = record { top_bits = 3; maskedBits = 4; belowReserved = 2 }
+abbrev pub long_form : Form
+long_form = record { top_bits = 3; masked_bits = 4; below_reserved = 2 }
 
 -- a byte of the mask on the masked bits of a first byte
-unfoldable pub maskedFirst : Form → (mask first : ℕ) → ℕ
-maskedFirst form mask first = bit_xor first (mask % 2 ^ form.maskedBits)
+unfoldable pub masked_first : Form → (mask first : ℕ) → ℕ
+masked_first form mask first = bit_xor first (mask % 2 ^ form.masked_bits)
 
 -- the two reserved bits of a first byte
-unfoldable pub reservedBits : Form → (first : ℕ) → ℕ
-reservedBits form first = first / 2 ^ form.belowReserved % 4
+unfoldable pub reserved_bits : Form → (first : ℕ) → ℕ
+reserved_bits form first = first / 2 ^ form.below_reserved % 4
 
 -- a datagram of a size that may come, whose first byte has the form's two bits
 unfoldable pub formed : Rules → Form → List ℕ → Outcome (Unit {0})

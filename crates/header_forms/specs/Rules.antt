@@ -8,18 +8,18 @@ pub record Rules : Type 0 where
   -- the largest datagram
   pub limit : ℕ
   -- Length, as it is written
-  pub lengthForm : ℕ → List ℕ
+  pub length_form : ℕ → List ℕ
 
 -- the scope's own: 1,500 bytes, and Length always in two
-abbrev pub firstRules : Rules
-firstRules = record { limit = 1500; lengthForm = two }
+abbrev pub first_rules : Rules
+first_rules = record { limit = 1500; length_form = two }
 
 -- those that every contract cites
-abbrev pub inForce : Rules
-inForce = firstRules
+abbrev pub in_force : Rules
+in_force = first_rules
 
 -- what opening asks of them: a Length up to the limit is read back, whatever stands behind it
 pub record Readable (rules : Rules) : Type 0 where
   pub small : rules.limit < 2 ^ 30
   pub back : (n : ℕ) (rest : List ℕ) → n ≤ rules.limit
-      → integer (rules.lengthForm n ++ rest) ≡ given (record { value = n; taken = length (rules.lengthForm n) })
+      → integer (rules.length_form n ++ rest) ≡ given (record { value = n; taken = length (rules.length_form n) })

@@ -1,8 +1,8 @@
 // The first byte, by the form of the header: RFC 9000 section 17.2, and RFC 9001 section 5.4.1 for what is masked of it.
 ghost use Rattle.std.specs.Prelude.{◌≡◌, ◌^◌};
-ghost use Rattle.header_forms.specs.Rules.{inForce};
-ghost use Rattle.header_forms.specs.Forms.{maskedFirst, reservedBits, formed};
-ghost use Rattle.header_forms.specs.Answers.{form_of, formedAnswer};
+ghost use Rattle.header_forms.specs.Rules.{in_force};
+ghost use Rattle.header_forms.specs.Forms.{masked_first, reserved_bits, formed};
+ghost use Rattle.header_forms.specs.Answers.{form_of, formed_answer};
 
 use octets::refusal;
 
@@ -33,7 +33,7 @@ fn top_bits(form: Form) -> u8
 
 // How many values the masked bits have.
 fn masked_values(form: Form) -> u8
-    ensures { result ≡ 2 ^ (form_of form).maskedBits }
+    ensures { result ≡ 2 ^ (form_of form).masked_bits }
 {
     match form {
         Form::Long => 16,
@@ -42,7 +42,7 @@ fn masked_values(form: Form) -> u8
 
 // How many values the bits below the reserved ones have.
 fn values_below_reserved(form: Form) -> u8
-    ensures { result ≡ 2 ^ (form_of form).belowReserved }
+    ensures { result ≡ 2 ^ (form_of form).below_reserved }
 {
     match form {
         Form::Long => 4,
@@ -51,21 +51,21 @@ fn values_below_reserved(form: Form) -> u8
 
 // RFC 9001 section 5.4.1: the mask's byte on the masked bits of a first byte.
 pub fn mask_first(form: Form, mask: u8, first: u8) -> u8
-    ensures { result ≡ maskedFirst (form_of form) mask first }
+    ensures { result ≡ masked_first (form_of form) mask first }
 {
     first ^ (mask % masked_values(form))
 }
 
 // The two reserved bits of a first byte.
 pub fn reserved_bits(form: Form, first: u8) -> u8
-    ensures { result ≡ reservedBits (form_of form) first }
+    ensures { result ≡ reserved_bits (form_of form) first }
 {
     first / values_below_reserved(form) % 4
 }
 
 // Whether a datagram has a size that may come, and a first byte of the form.
 pub fn judge_form(datagram: &[u8], form: Form) -> Formed
-    ensures { formedAnswer result ≡ formed inForce (form_of form) datagram.now }
+    ensures { formed_answer result ≡ formed in_force (form_of form) datagram.now }
 {
     if datagram.len() < 1 {
         return Formed::Refused(refusal::SIZE);

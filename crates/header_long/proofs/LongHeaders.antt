@@ -9,56 +9,56 @@ use borrow.Author.Tests.{le-leb, lt-leb, leb-true, eq-eqb, ne_eqb}
 use Rattle.octets.specs.Outcome.{refused, given}
 use Rattle.octets.specs.Octets.{number, part}
 use Rattle.octets.proofs.Outcome.{passed, stepped, given-same, both}
-use Rattle.versions.specs.Versions.{Version, known, version, levelOf}
+use Rattle.versions.specs.Versions.{Version, known, version, level_of}
 use Rattle.header_fields.specs.Fields.{Place, behind, id_at}
-use Rattle.header_long.specs.LongHeader.{Judge, onlyLevel, onlyRetry, Judged, Long, versionOf, judged, long}
+use Rattle.header_long.specs.LongHeader.{Judge, only_level, only_retry, Judged, Long, version_of, judged, long}
 use Rattle.header_fields.proofs.Fields.{Within, id-within}
 
 -- ---- the version
 module _ (d : List ℕ) where
-  pub version-short : length d < 5 → versionOf d ≡ refused 3
-  unfolding versionOf
+  pub version-short : length d < 5 → version_of d ≡ refused 3
+  unfolding version_of
   version-short h = rw (lt-leb 5 (length d) h)
 
-  pub version-found : 5 ≤ length d → versionOf d ≡ given (number (part d 1 4))
-  unfolding versionOf
+  pub version-found : 5 ≤ length d → version_of d ≡ given (number (part d 1 4))
+  unfolding version_of
   version-found h = rw (le-leb 5 (length d) h)
 
 -- a version that was read stood there whole
-pub version-there : (d : List ℕ) {v : ℕ} → given v ≡ versionOf d → 5 ≤ length d
-unfolding versionOf
+pub version-there : (d : List ℕ) {v : ℕ} → given v ≡ version_of d → 5 ≤ length d
+unfolding version_of
 version-there d is = let all = passed 3 (leb 5 (length d)) _ (sym is) in leb-true 5 (length d) all.0
 
 -- ---- what a type is taken for
 module _ (row : Version) (type : ℕ) where
-  pub level-refused : (wanted : ℕ) {n : ℕ} → refused n ≡ levelOf row type → onlyLevel wanted row type ≡ refused n
-  unfolding onlyLevel
+  pub level-refused : (wanted : ℕ) {n : ℕ} → refused n ≡ level_of row type → only_level wanted row type ≡ refused n
+  unfolding only_level
   level-refused wanted e = rw (← e)
 
-  module _ {level : ℕ} (wanted : ℕ) (is : given level ≡ levelOf row type) where
-    pub level-other : (level ≡ wanted → ⊥) → onlyLevel wanted row type ≡ refused 6
-    unfolding onlyLevel
+  module _ {level : ℕ} (wanted : ℕ) (is : given level ≡ level_of row type) where
+    pub level-other : (level ≡ wanted → ⊥) → only_level wanted row type ≡ refused 6
+    unfolding only_level
     level-other h = rw (← is, ne_eqb level wanted h)
 
-    pub level-wanted : level ≡ wanted → onlyLevel wanted row type ≡ given level
-    unfolding onlyLevel
+    pub level-wanted : level ≡ wanted → only_level wanted row type ≡ given level
+    unfolding only_level
     level-wanted h = rw (← is, eq-eqb level wanted h)
 
-  pub retry-other : (type ≡ row.retryType → ⊥) → onlyRetry row type ≡ refused 6
-  unfolding onlyRetry
-  retry-other h = rw (ne_eqb type row.retryType h)
+  pub retry-other : (type ≡ row.retry_type → ⊥) → only_retry row type ≡ refused 6
+  unfolding only_retry
+  retry-other h = rw (ne_eqb type row.retry_type h)
 
-  pub retry-right : type ≡ row.retryType → onlyRetry row type ≡ given type
-  unfolding onlyRetry
-  retry-right h = rw (eq-eqb type row.retryType h)
+  pub retry-right : type ≡ row.retry_type → only_retry row type ≡ given type
+  unfolding only_retry
+  retry-right h = rw (eq-eqb type row.retry_type h)
 
 -- ---- the version and the type, judged
 module _ {A : Type 0} (judge : Judge A) (d : List ℕ) where
-  pub judged-none : {n : ℕ} → refused n ≡ versionOf d → judged judge d ≡ refused n
+  pub judged-none : {n : ℕ} → refused n ≡ version_of d → judged judge d ≡ refused n
   unfolding judged
   judged-none e = rw (← e)
 
-  module _ {v : ℕ} (is : given v ≡ versionOf d) where
+  module _ {v : ℕ} (is : given v ≡ version_of d) where
     pub judged-unknown : known v ≡ false → judged judge d ≡ refused 4
     unfolding judged
     judged-unknown h = rw (← is, h)
@@ -86,7 +86,7 @@ pub record Right (takes : ℕ → Bool) (d : List ℕ) (v : ℕ) : Type 0 where
 pub judged-there : {A : Type 0} (judge : Judge A) (d : List ℕ) {j : Judged A} → given j ≡ judged judge d → Right judge.takes d j.version
 unfolding judged
 judged-there judge d is =
-    let found = stepped (versionOf d) _ (sym is) in
+    let found = stepped (version_of d) _ (sym is) in
     let right = passed 4 (known found.0 && judge.takes found.0) _ found.2 in
     let typed = stepped (judge.kind (version found.0) (get_or d 0 0 / 16 % 4)) _ right.1 in
     let two = both (known found.0) (judge.takes found.0) right.0 in

@@ -1,10 +1,10 @@
 -- What is asked of a long header's readers, and what they answer, as the outcomes that they stand for.
 use Rattle.std.specs.Prelude.{ℕ, Bool, true, eqb}
 use Rattle.octets.specs.Outcome.{Outcome, refused, given}
-use Rattle.versions.specs.Versions.{Version, levelOf}
+use Rattle.versions.specs.Versions.{Version, level_of}
 use Rattle.header_fields.specs.Answers.{place_of}
 use Rattle.header_long.specs.LongHeader as Section17
-use Rattle.header_long.specs.LongHeader.{onlyLevel, onlyRetry}
+use Rattle.header_long.specs.LongHeader.{only_level, only_retry}
 use Rattle.header_long.specs.declared.Versions.{Versions}
 use Rattle.header_long.specs.declared.Versions.TheVariants as Versions
 use Rattle.header_long.specs.declared.Types.{Types}
@@ -25,25 +25,25 @@ takes Versions.Known = λ v. true
 takes (Versions.Only w) = λ v. eqb v w
 
 abbrev pub kind_of : Types → Version → (type : ℕ) → Outcome ℕ
-kind_of Types.Leveled = levelOf
-kind_of (Types.Level l) = onlyLevel l
-kind_of Types.Retry = onlyRetry
+kind_of Types.Leveled = level_of
+kind_of (Types.Level l) = only_level l
+kind_of Types.Retry = only_retry
 
-abbrev pub judgeOf : Judge → Section17.Judge ℕ
-judgeOf j = record { takes = takes j.versions; kind = kind_of j.types }
+abbrev pub judge_of : Judge → Section17.Judge ℕ
+judge_of j = record { takes = takes j.versions; kind = kind_of j.types }
 
 -- ---- what is answered
-abbrev pub versionAnswer : VersionRead → Outcome ℕ
-versionAnswer (VersionRead.Refused n) = refused n
-versionAnswer (VersionRead.Of v) = given v
+abbrev pub version_answer : VersionRead → Outcome ℕ
+version_answer (VersionRead.Refused n) = refused n
+version_answer (VersionRead.Of v) = given v
 
-abbrev pub judgedAnswer : Judgement → Outcome (Section17.Judged ℕ)
-judgedAnswer (Judgement.Refused n) = refused n
-judgedAnswer (Judgement.Right j) = given (record { version = j.version; kind = j.kind })
+abbrev pub judged_answer : Judgement → Outcome (Section17.Judged ℕ)
+judged_answer (Judgement.Refused n) = refused n
+judged_answer (Judgement.Right j) = given (record { version = j.version; kind = j.kind })
 
-abbrev pub longOf : Long → Section17.Long ℕ
-longOf l = record { version = l.version; kind = l.kind; destination = place_of l.destination; source = place_of l.source }
+abbrev pub long_of : Long → Section17.Long ℕ
+long_of l = record { version = l.version; kind = l.kind; destination = place_of l.destination; source = place_of l.source }
 
-abbrev pub longAnswer : LongReading → Outcome (Section17.Long ℕ)
-longAnswer (LongReading.Refused n) = refused n
-longAnswer (LongReading.Read l) = given (longOf l)
+abbrev pub long_answer : LongReading → Outcome (Section17.Long ℕ)
+long_answer (LongReading.Refused n) = refused n
+long_answer (LongReading.Read l) = given (long_of l)

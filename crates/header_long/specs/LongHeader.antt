@@ -2,7 +2,7 @@
 use Rattle.std.specs.Prelude.{ℕ, ◌/◌, ◌%◌, List, Bool, ◌&&◌, eqb, get_or}
 use Rattle.octets.specs.Outcome.{Outcome, given, unless, ◌>>=◌, ◌>>◌}
 use Rattle.octets.specs.Octets.{number, part}
-use Rattle.versions.specs.Versions.{Version, known, version, levelOf}
+use Rattle.versions.specs.Versions.{Version, known, version, level_of}
 use Rattle.header_fields.specs.Fields.{Place, behind, whole, id_at}
 
 -- ---- who reads
@@ -12,27 +12,27 @@ pub record Judge (A : Type 0) : Type 0 where
   pub kind : Version → (type : ℕ) → Outcome A
 
 -- any level: every type but Retry
-abbrev pub ofAnyLevel : (takes : ℕ → Bool) → Judge ℕ
-ofAnyLevel takes = record { takes = takes; kind = levelOf }
+abbrev pub of_any_level : (takes : ℕ → Bool) → Judge ℕ
+of_any_level takes = record { takes = takes; kind = level_of }
 
 -- one level alone; a number that names no level is no packet's
-unfoldable pub onlyLevel : (wanted : ℕ) → Version → (type : ℕ) → Outcome ℕ
-onlyLevel wanted row type = do
-  level ← levelOf row type
+unfoldable pub only_level : (wanted : ℕ) → Version → (type : ℕ) → Outcome ℕ
+only_level wanted row type = do
+  level ← level_of row type
   unless 6 (eqb level wanted)
   given level
 
-abbrev pub ofLevel : (takes : ℕ → Bool) → (wanted : ℕ) → Judge ℕ
-ofLevel takes wanted = record { takes = takes; kind = onlyLevel wanted }
+abbrev pub of_level : (takes : ℕ → Bool) → (wanted : ℕ) → Judge ℕ
+of_level takes wanted = record { takes = takes; kind = only_level wanted }
 
 -- Retry alone, by its type
-unfoldable pub onlyRetry : Version → (type : ℕ) → Outcome ℕ
-onlyRetry row type = do
-  unless 6 (eqb type row.retryType)
+unfoldable pub only_retry : Version → (type : ℕ) → Outcome ℕ
+only_retry row type = do
+  unless 6 (eqb type row.retry_type)
   given type
 
-abbrev pub ofRetry : (takes : ℕ → Bool) → Judge ℕ
-ofRetry takes = record { takes = takes; kind = onlyRetry }
+abbrev pub of_retry : (takes : ℕ → Bool) → Judge ℕ
+of_retry takes = record { takes = takes; kind = only_retry }
 
 -- ---- section 17.2: what every long header begins with, where it stands
 pub record Judged (A : Type 0) : Type 0 where
@@ -46,15 +46,15 @@ pub record Long (A : Type 0) : Type 0 where
   pub source : Place
 
 -- the version behind the first byte
-unfoldable pub versionOf : List ℕ → Outcome ℕ
-versionOf d = do
+unfoldable pub version_of : List ℕ → Outcome ℕ
+version_of d = do
   whole d 1 4
   given (number (part d 1 4))
 
 -- the version, where it is known and taken, and what the reader makes of that version's type
 unfoldable pub judged : {A : Type 0} → Judge A → List ℕ → Outcome (Judged A)
 judged judge d = do
-  v ← versionOf d
+  v ← version_of d
   unless 4 (known v && judge.takes v)
   kind ← judge.kind (version v) (get_or d 0 0 / 16 % 4)
   given (record { version = v; kind = kind })

@@ -1,9 +1,9 @@
 // RFC 9000 section 17.2: what every long header begins with, read field by field in the order of docs/SCOPE.md, "Order of refusals".
 ghost use Rattle.std.specs.Prelude.{◌≡◌};
 ghost use Rattle.versions.specs.Versions as Constants;
-ghost use Rattle.versions.specs.Answers.{levelAnswer};
-ghost use Rattle.header_long.specs.LongHeader.{onlyLevel, onlyRetry, versionOf, judged, long};
-ghost use Rattle.header_long.specs.Answers.{takes, kind_of, judgeOf, versionAnswer, judgedAnswer, longAnswer};
+ghost use Rattle.versions.specs.Answers.{level_answer};
+ghost use Rattle.header_long.specs.LongHeader.{only_level, only_retry, version_of, judged, long};
+ghost use Rattle.header_long.specs.Answers.{takes, kind_of, judge_of, version_answer, judged_answer, long_answer};
 
 use header_fields::{Found, Place, id_at};
 use octets::refusal;
@@ -80,7 +80,7 @@ fn is_taken(versions: Versions, version: u32) -> bool
 
 // A level, where it is the one that is wanted.
 fn only_level(wanted: u8, version: u32, kind: u8) -> Leveled
-    ensures { levelAnswer result ≡ onlyLevel wanted (Constants.version version) kind }
+    ensures { level_answer result ≡ only_level wanted (Constants.version version) kind }
 {
     let level = match level_of(version, kind) {
         Leveled::Refused(why) => return Leveled::Refused(why),
@@ -94,7 +94,7 @@ fn only_level(wanted: u8, version: u32, kind: u8) -> Leveled
 
 // A type, where it is Retry's.
 fn only_retry(version: u32, kind: u8) -> Leveled
-    ensures { levelAnswer result ≡ onlyRetry (Constants.version version) kind }
+    ensures { level_answer result ≡ only_retry (Constants.version version) kind }
 {
     if kind != retry_type(version) {
         return Leveled::Refused(refusal::TYPE);
@@ -104,7 +104,7 @@ fn only_retry(version: u32, kind: u8) -> Leveled
 
 // What a type is taken for.
 fn kind_of(types: Types, version: u32, kind: u8) -> Leveled
-    ensures { levelAnswer result ≡ kind_of types (Constants.version version) kind }
+    ensures { level_answer result ≡ kind_of types (Constants.version version) kind }
 {
     match types {
         Types::Leveled => level_of(version, kind),
@@ -115,7 +115,7 @@ fn kind_of(types: Types, version: u32, kind: u8) -> Leveled
 
 // The version behind the first byte.
 fn read_version(datagram: &[u8]) -> Version
-    ensures { versionAnswer result ≡ versionOf datagram.now }
+    ensures { version_answer result ≡ version_of datagram.now }
 {
     if datagram.len() < 5 {
         return Version::Refused(refusal::NOT_WHOLE);
@@ -125,7 +125,7 @@ fn read_version(datagram: &[u8]) -> Version
 
 // The version, where it is taken, and what the reader takes that version's type for.
 fn judge_version(datagram: &[u8], judge: Judge) -> Judgement
-    ensures { judgedAnswer result ≡ judged (judgeOf judge) datagram.now }
+    ensures { judged_answer result ≡ judged (judge_of judge) datagram.now }
 {
     let version = match read_version(datagram) {
         Version::Refused(why) => return Judgement::Refused(why),
@@ -147,7 +147,7 @@ fn judge_version(datagram: &[u8], judge: Judge) -> Judgement
 
 // Section 17.2: what every long header begins with, behind a first byte that was judged, as far as the reader takes it.
 pub fn read_long(datagram: &[u8], judge: Judge) -> LongReading
-    ensures { longAnswer result ≡ long (judgeOf judge) datagram.now }
+    ensures { long_answer result ≡ long (judge_of judge) datagram.now }
 {
     let judged = match judge_version(datagram, judge) {
         Judgement::Refused(why) => return LongReading::Refused(why),

@@ -7,32 +7,32 @@ use native.Mathlib.Omega.{arith}
 use lib.ListN.{length}
 use Rattle.octets.specs.Outcome.{refused, given, ◌>>=◌}
 use Rattle.octets.proofs.Outcome.{stepped, followed, given-same}
-use Rattle.versions.specs.Levels.{hasToken}
+use Rattle.versions.specs.Levels.{has_token}
 use Rattle.header_forms.specs.Rules.{Rules}
-use Rattle.header_forms.specs.Forms.{longForm, formed}
-use Rattle.header_fields.specs.Fields.{Place, behind, leastLength, field_at, rest_at}
+use Rattle.header_forms.specs.Forms.{long_form, formed}
+use Rattle.header_fields.specs.Fields.{Place, behind, least_length, field_at, rest_at}
 use Rattle.header_fields.proofs.Fields.{Within, field-within, rest-within}
-use Rattle.header_long.specs.LongHeader.{Judge, ofAnyLevel, Long, long}
+use Rattle.header_long.specs.LongHeader.{Judge, of_any_level, Long, long}
 use Rattle.header_long.proofs.LongHeaders.{Right, long-there}
-use Rattle.header_reading.specs.PacketHeader.{Token, tokenAt, Header, header, anyHeader}
+use Rattle.header_reading.specs.PacketHeader.{Token, token_at, Header, header, any_header}
 
 -- ---- the token
 module _ (level : ℕ) (d : List ℕ) (at : ℕ) where
-  pub token-none : hasToken level ≡ false → tokenAt level d at ≡ given (record { place = record { at = 0; len = 0 }; end = at })
-  unfolding tokenAt
+  pub token-none : has_token level ≡ false → token_at level d at ≡ given (record { place = record { at = 0; len = 0 }; end = at })
+  unfolding token_at
   token-none h = rw h
 
-  module _ (has : hasToken level ≡ true) where
-    token-is : tokenAt level d at ≡ (field_at d at >>= λ f. given (record { place = f; end = behind f }))
-    unfolding tokenAt
+  module _ (has : has_token level ≡ true) where
+    token-is : token_at level d at ≡ (field_at d at >>= λ f. given (record { place = f; end = behind f }))
+    unfolding token_at
     token-is = rw has
 
-    pub token-refused : {n : ℕ} → refused n ≡ field_at d at → tokenAt level d at ≡ refused n
-    unfolding tokenAt
+    pub token-refused : {n : ℕ} → refused n ≡ field_at d at → token_at level d at ≡ refused n
+    unfolding token_at
     token-refused e = rw (has, ← e)
 
-    pub token-found : {p : Place} → given p ≡ field_at d at → tokenAt level d at ≡ given (record { place = p; end = behind p })
-    unfolding tokenAt
+    pub token-found : {p : Place} → given p ≡ field_at d at → token_at level d at ≡ given (record { place = p; end = behind p })
+    unfolding token_at
     token-found e = rw (has, ← e)
 
   -- it stands within the datagram, and the fields go on behind the place where it was looked for
@@ -41,10 +41,10 @@ module _ (level : ℕ) (d : List ℕ) (at : ℕ) where
     pub after : at ≤ t.end
     pub on : t.end ≤ length d
 
-  pub token-there : at ≤ length d → {t : Token} → given t ≡ tokenAt level d at → TokenThere t
-  token-there start {t} is = by (hasToken level) refl
+  pub token-there : at ≤ length d → {t : Token} → given t ≡ token_at level d at → TokenThere t
+  token-there start {t} is = by (has_token level) refl
     where
-      by : (b : Bool) → hasToken level ≡ b → TokenThere t
+      by : (b : Bool) → has_token level ≡ b → TokenThere t
       by false none = rw (given-same (is ∙ token-none none)) (record { inside = omega arith; after = omega arith; on = start })
       by true has =
           let field = stepped (field_at d at) _ (sym (is ∙ token-is has)) in
@@ -58,11 +58,11 @@ module _ (judge : Judge ℕ) (d : List ℕ) where
   header-no-long e = rw (← e)
 
   module _ {l : Long ℕ} (is-long : given l ≡ long judge d) where
-    pub header-no-token : {n : ℕ} → refused n ≡ tokenAt l.kind d (behind l.source) → header judge d ≡ refused n
+    pub header-no-token : {n : ℕ} → refused n ≡ token_at l.kind d (behind l.source) → header judge d ≡ refused n
     unfolding header
     header-no-token e = rw (← is-long, ← e)
 
-    module _ {t : Token} (is-token : given t ≡ tokenAt l.kind d (behind l.source)) where
+    module _ {t : Token} (is-token : given t ≡ token_at l.kind d (behind l.source)) where
       pub header-no-rest : {n : ℕ} → refused n ≡ rest_at d t.end → header judge d ≡ refused n
       unfolding header
       header-no-rest e = rw (← is-long, ← is-token, ← e)
@@ -75,7 +75,7 @@ module _ (judge : Judge ℕ) (d : List ℕ) where
             source = l.source;
             token = t.place;
             length' = r.len;
-            numberAt = r.at;
+            number_at = r.at;
           })
       unfolding header
       header-found e = rw (← is-long, ← is-token, ← e)
@@ -86,15 +86,15 @@ pub record HeaderThere (takes : ℕ → Bool) (d : List ℕ) (h : Header) : Type
   pub destination : Within d 5 h.destination
   pub source : Within d (behind h.destination) h.source
   pub token : behind h.token ≤ length d
-  pub number : behind h.source ≤ h.numberAt
-  pub enough : leastLength ≤ h.length'
-  pub all : h.numberAt + h.length' ≤ length d
+  pub number : behind h.source ≤ h.number_at
+  pub enough : least_length ≤ h.length'
+  pub all : h.number_at + h.length' ≤ length d
 
 pub header-there : (judge : Judge ℕ) (d : List ℕ) {h : Header} → given h ≡ header judge d → HeaderThere judge.takes d h
 unfolding header
 header-there judge d is =
     let one = stepped (long judge d) _ (sym is) in
-    let two = stepped (tokenAt one.0.kind d (behind one.0.source)) _ one.2 in
+    let two = stepped (token_at one.0.kind d (behind one.0.source)) _ one.2 in
     let three = stepped (rest_at d two.0.end) _ two.2 in
     let begin = long-there judge d (sym one.1) in
     let token = token-there one.0.kind d (behind one.0.source) begin.source.inside (sym two.1) in
@@ -111,8 +111,8 @@ header-there judge d is =
     })
 
 -- ---- of a whole datagram
-pub any-there : (rules : Rules) (d : List ℕ) {h : Header} → given h ≡ anyHeader rules d → HeaderThere (λ v. true) d h
-unfolding anyHeader
+pub any-there : (rules : Rules) (d : List ℕ) {h : Header} → given h ≡ any_header rules d → HeaderThere (λ v. true) d h
+unfolding any_header
 any-there rules d is =
-    let one = followed (formed rules longForm d) _ (sym is) in
-    header-there (ofAnyLevel (λ v. true)) d (sym one.2)
+    let one = followed (formed rules long_form d) _ (sym is) in
+    header-there (of_any_level (λ v. true)) d (sym one.2)

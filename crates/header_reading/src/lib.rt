@@ -1,8 +1,8 @@
 // RFC 9000 sections 17.2.2 to 17.2.4: the header of a packet with a number, read up to it in the order of docs/SCOPE.md, "Order of refusals".
 ghost use Rattle.std.specs.Prelude.{◌≡◌, ◌≤◌, length};
-ghost use Rattle.header_long.specs.Answers.{judgeOf};
-ghost use Rattle.header_reading.specs.PacketHeader.{tokenAt, header};
-ghost use Rattle.header_reading.specs.Answers.{tokenAnswer, readingAnswer, ReadHeader};
+ghost use Rattle.header_long.specs.Answers.{judge_of};
+ghost use Rattle.header_reading.specs.PacketHeader.{token_at, header};
+ghost use Rattle.header_reading.specs.Answers.{token_answer, reading_answer, ReadHeader};
 
 use header_fields::{Found, Place, field_at, rest_at};
 use header_forms::{Form, Formed, judge_form};
@@ -45,7 +45,7 @@ pub enum Reading {
 // Section 17.2.2: the token of an Initial packet. Packets of another level have no field for it, and 0 stands for its place and length.
 fn token_at(datagram: &[u8], level: u8, at: usize) -> TokenFound
     requires { at ≤ length datagram.now }
-    ensures { tokenAnswer result ≡ tokenAt level datagram.now at }
+    ensures { token_answer result ≡ token_at level datagram.now at }
 {
     if level != level::INITIAL {
         return TokenFound::At(Token {
@@ -65,7 +65,7 @@ fn token_at(datagram: &[u8], level: u8, at: usize) -> TokenFound
 
 // Sections 17.2.2 to 17.2.4: the header behind a first byte that was judged, as far as the reader takes it.
 pub fn read_fields(datagram: &[u8], judge: Judge) -> Reading
-    ensures { readingAnswer result ≡ header (judgeOf judge) datagram.now }
+    ensures { reading_answer result ≡ header (judge_of judge) datagram.now }
 {
     let long = match read_long(datagram, judge) {
         LongReading::Refused(why) => return Reading::Refused(why),

@@ -8,40 +8,40 @@ use Rattle.octets.specs.Octets.{bytes}
 use Rattle.octets.proofs.Numbers.{bytes-length}
 use Rattle.integers_writing.specs.Written.{smallest}
 use Rattle.integers_writing.proofs.Forms.{two_bytes}
-use Rattle.header_forms.specs.Rules.{Rules, inForce}
+use Rattle.header_forms.specs.Rules.{Rules, in_force}
 use Rattle.header_writing.specs.Written as Section17
-use Rattle.header_writing.specs.Written.{withLength, longFields, tokenBytes, packetFields, sizeBeforeNumber}
-use Rattle.header_writing.specs.Answers.{tokenOf, tokenSize}
+use Rattle.header_writing.specs.Written.{with_length, long_fields, token_bytes, packet_fields, size_before_number}
+use Rattle.header_writing.specs.Answers.{token_of, token_size}
 use Rattle.header_writing.specs.declared.TokenField.{TokenField}
 use Rattle.header_writing.specs.declared.TokenField.TheVariants as TokenField
 
-pub long-length : (v : ℕ) (destination source : List ℕ) → length (longFields v destination source) ≡ 6 + length destination + length source
-unfolding longFields
+pub long-length : (v : ℕ) (destination source : List ℕ) → length (long_fields v destination source) ≡ 6 + length destination + length source
+unfolding long_fields
 long-length v destination source =
     omega (
       arith,
       bytes-length 4 v,
-      length-append (bytes 4 v) (withLength destination),
-      length-append (bytes 4 v ++ withLength destination) (withLength source),
+      length-append (bytes 4 v) (with_length destination),
+      length-append (bytes 4 v ++ with_length destination) (with_length source),
     )
 
 pub fields-length : (rules : Rules) (v : ℕ) (destination source : List ℕ) (token : Section17.TokenField) (counted : ℕ)
-    → 1 + length (packetFields rules v destination source token counted) ≡ sizeBeforeNumber rules destination source token counted
-unfolding packetFields
+    → 1 + length (packet_fields rules v destination source token counted) ≡ size_before_number rules destination source token counted
+unfolding packet_fields
 fields-length rules v destination source token counted =
-    let ids = longFields v destination source in
+    let ids = long_fields v destination source in
     omega (
       arith,
       long-length v destination source,
-      length-append (ids ++ tokenBytes token) (rules.lengthForm counted),
-      length-append ids (tokenBytes token),
+      length-append (ids ++ token_bytes token) (rules.length_form counted),
+      length-append ids (token_bytes token),
     )
 
 -- the token's field
-pub token-size : (field : TokenField) (token : List ℕ) → tokenSize field (length token) ≡ length (tokenBytes (tokenOf field token))
+pub token-size : (field : TokenField) (token : List ℕ) → token_size field (length token) ≡ length (token_bytes (token_of field token))
 token-size TokenField.Holding token = omega (arith, length-append (smallest (length token)) token)
 token-size TokenField.Absent token = refl
 
 -- Length is written in a few bytes
-pub length-few : (n : ℕ) → length (inForce.lengthForm n) ≤ 4
+pub length-few : (n : ℕ) → length (in_force.length_form n) ≤ 4
 length-few n = omega (arith, two_bytes n)

@@ -13,22 +13,22 @@ use Rattle.octets.proofs.Numbers.{bytes-length, number-back}
 use Rattle.integers.specs.Integer.{integer}
 use Rattle.integers_writing.specs.Written.{smallest}
 use Rattle.integers_writing.proofs.IntegersBack.{smallest-back}
-use Rattle.versions.specs.Levels.{hasToken, hasNoToken}
-use Rattle.versions.specs.Versions.{known, version, typeFor, levelOf}
+use Rattle.versions.specs.Levels.{has_token, has_no_token}
+use Rattle.versions.specs.Versions.{known, version, type_for, level_of}
 use Rattle.versions.proofs.Versions.{version-fits, type-fits, retry-fits, level-back, without-token}
 use Rattle.header_forms.specs.Rules.{Rules, Readable}
-use Rattle.header_fields.specs.Fields.{longestId, leastLength, id_at, field_at, rest_at}
+use Rattle.header_fields.specs.Fields.{longest_id, least_length, id_at, field_at, rest_at}
 use Rattle.header_fields.proofs.Fields.{id-whole, integer-found, field-whole, rest-whole}
-use Rattle.header_long.specs.LongHeader.{Judge, onlyLevel, onlyRetry, Long, versionOf, long}
+use Rattle.header_long.specs.LongHeader.{Judge, only_level, only_retry, Long, version_of, long}
 use Rattle.header_long.proofs.LongHeaders.{version-found, level-wanted, level-other, retry-right, judged-type, judged-right, long-no-version, long-found}
-use Rattle.header_reading.specs.PacketHeader.{Token, tokenAt, Header, header}
+use Rattle.header_reading.specs.PacketHeader.{Token, token_at, Header, header}
 use Rattle.header_reading.proofs.PacketHeaders.{token-none, token-found, header-found}
-use Rattle.header_writing.specs.Written.{TokenField, holding, absent, writes, tokenBytes, Plain, longFirst, withLength, longFields, packetFields, length_of, fields}
+use Rattle.header_writing.specs.Written.{TokenField, holding, absent, writes, token_bytes, Plain, long_first, with_length, long_fields, packet_fields, length_of, fields}
 use Rattle.header_writing.proofs.Forms.{fields-length}
 
 -- ---- one field
 module _ (d : List ℕ) (at : ℕ) where
-  pub id-read : (id rest : List ℕ) → At d at (withLength id ++ rest) → length id ≤ longestId → id_at d at ≡ given (record { at = at + 1; len = length id })
+  pub id-read : (id rest : List ℕ) → At d at (with_length id ++ rest) → length id ≤ longest_id → id_at d at ≡ given (record { at = at + 1; len = length id })
   id-read id rest h short =
       let l = length-append id rest in
       let says = byte_at d at (length id) (id ++ rest) h in
@@ -44,16 +44,16 @@ module _ (d : List ℕ) (at : ℕ) where
       field-whole d at (sym (integer-found d at is)) (omega arith)
 
   -- a Length that the rules write, and at least as many bytes behind
-  pub rest_read : (rules : Rules) → Readable rules → (n : ℕ) (rest : List ℕ) → At d at (rules.lengthForm n ++ rest) → n ≤ rules.limit → leastLength ≤ n
-      → n ≤ length rest → rest_at d at ≡ given (record { at = at + length (rules.lengthForm n); len = n })
+  pub rest_read : (rules : Rules) → Readable rules → (n : ℕ) (rest : List ℕ) → At d at (rules.length_form n ++ rest) → n ≤ rules.limit → least_length ≤ n
+      → n ≤ length rest → rest_at d at ≡ given (record { at = at + length (rules.length_form n); len = n })
   rest_read rules readable n rest h small enough all =
-      let end = past d at (at + length (rules.lengthForm n)) (rules.lengthForm n) rest h refl in
+      let end = past d at (at + length (rules.length_form n)) (rules.length_form n) rest h refl in
       let is = sym (ap integer h.there ∙ readable.back n rest small) in
       rest-whole d at (sym (integer-found d at is)) enough (omega arith)
 
 -- ---- what every long header begins with
 -- the first byte's high four bits
-pub first-form : (type low : ℕ) → low < 16 → longFirst type low / 16 ≡ 12 + type
+pub first-form : (type low : ℕ) → low < 16 → long_first type low / 16 ≡ 12 + type
 first-form type low h = omega arith
 
 -- a type is read back from the first byte
@@ -61,39 +61,39 @@ pub type-back : (first type : ℕ) → first / 16 ≡ 12 + type → type ≤ 3 �
 type-back first type form narrow = omega arith
 
 -- whoever writes a token's field, or none, has a level that is named
-named : (field : TokenField) (level : ℕ) → writes field level ≡ true → hasToken level || hasNoToken level ≡ true
+named : (field : TokenField) (level : ℕ) → writes field level ≡ true → has_token level || has_no_token level ≡ true
 named (holding token) level h = rw h
 named absent level h = rw (without-token level h, h)
 
 -- a reader of one level takes the type that was written for it, and for that level; a reader of another refuses it
-module _ (v first level : ℕ) (field : TokenField) (form : first / 16 ≡ 12 + typeFor (version v) level) (suits : writes field level ≡ true) where
-  level-read : given level ≡ levelOf (version v) (first / 16 % 4)
-  level-read = rw (type-back first (typeFor (version v) level) form (type-fits v level)) (sym (level-back v level (named field level suits)))
+module _ (v first level : ℕ) (field : TokenField) (form : first / 16 ≡ 12 + type_for (version v) level) (suits : writes field level ≡ true) where
+  level-read : given level ≡ level_of (version v) (first / 16 % 4)
+  level-read = rw (type-back first (type_for (version v) level) form (type-fits v level)) (sym (level-back v level (named field level suits)))
 
-  pub level-taken : given level ≡ onlyLevel level (version v) (first / 16 % 4)
+  pub level-taken : given level ≡ only_level level (version v) (first / 16 % 4)
   level-taken = sym (level-wanted (version v) (first / 16 % 4) level level-read refl)
 
-  pub level-refused : (other : ℕ) → (level ≡ other → ⊥) → refused 6 ≡ onlyLevel other (version v) (first / 16 % 4)
+  pub level-refused : (other : ℕ) → (level ≡ other → ⊥) → refused 6 ≡ only_level other (version v) (first / 16 % 4)
   level-refused other apart = sym (level-other (version v) (first / 16 % 4) other level-read apart)
 
 -- a reader of Retry takes Retry's
-pub retry-taken : (v first : ℕ) → first / 16 ≡ 12 + (version v).retryType → given (version v).retryType ≡ onlyRetry (version v) (first / 16 % 4)
+pub retry-taken : (v first : ℕ) → first / 16 ≡ 12 + (version v).retry_type → given (version v).retry_type ≡ only_retry (version v) (first / 16 % 4)
 retry-taken v first form =
-    let type = type-back first (version v).retryType form (retry-fits v) in
+    let type = type-back first (version v).retry_type form (retry-fits v) in
     sym (retry-right (version v) (first / 16 % 4) type ∙ ap given type)
 
 -- a datagram that begins with a first byte whose type the reader takes for something, a version that it takes and two IDs
 pub record LongWritten {A : Type 0} (judge : Judge A) (v first : ℕ) (kind : A) (destination source d rest : List ℕ) : Type 0 where
-  pub is : d ≡ first ∷ longFields v destination source ++ rest
+  pub is : d ≡ first ∷ long_fields v destination source ++ rest
   pub ours : known v ≡ true
   pub taken : judge.takes v ≡ true
   pub judges : given kind ≡ judge.kind (version v) (first / 16 % 4)
-  pub short-destination : length destination ≤ longestId
-  pub short-source : length source ≤ longestId
+  pub short-destination : length destination ≤ longest_id
+  pub short-source : length source ≤ longest_id
 
 -- where its parts stand
-abbrev pub longPlaces : {A : Type 0} → (v : ℕ) (kind : A) (destination source : List ℕ) → Long A
-longPlaces v kind destination source = record {
+abbrev pub long_places : {A : Type 0} → (v : ℕ) (kind : A) (destination source : List ℕ) → Long A
+long_places v kind destination source = record {
   version = v;
   kind = kind;
   destination = record { at = 6; len = length destination };
@@ -101,43 +101,43 @@ longPlaces v kind destination source = record {
 }
 
 -- what stands from the destination's length on
-abbrev fromDestination : (destination source rest : List ℕ) → List ℕ
-fromDestination destination source rest = withLength destination ++ (withLength source ++ rest)
+abbrev from_destination : (destination source rest : List ℕ) → List ℕ
+from_destination destination source rest = with_length destination ++ (with_length source ++ rest)
 
-module _ (v first : ℕ) (destination source d rest : List ℕ) (is : d ≡ first ∷ longFields v destination source ++ rest) where
-  at-version : At d 1 (bytes 4 v ++ fromDestination destination source rest)
-  unfolding longFields
+module _ (v first : ℕ) (destination source d rest : List ℕ) (is : d ≡ first ∷ long_fields v destination source ++ rest) where
+  at-version : At d 1 (bytes 4 v ++ from_destination destination source rest)
+  unfolding long_fields
   at-version =
-      let l : length d ≡ suc (length (longFields v destination source ++ rest)) = rw is in
-      begins d 1 (bytes 4 v ++ fromDestination destination source rest) (omega arith) (rw is (regroup (bytes 4 v) (withLength destination) (withLength source) rest))
+      let l : length d ≡ suc (length (long_fields v destination source ++ rest)) = rw is in
+      begins d 1 (bytes 4 v ++ from_destination destination source rest) (omega arith) (rw is (regroup (bytes 4 v) (with_length destination) (with_length source) rest))
 
-  at-destination : At d 5 (fromDestination destination source rest)
-  at-destination = past d 1 5 (bytes 4 v) (fromDestination destination source rest) at-version (rw (bytes-length 4 v))
+  at-destination : At d 5 (from_destination destination source rest)
+  at-destination = past d 1 5 (bytes 4 v) (from_destination destination source rest) at-version (rw (bytes-length 4 v))
 
-  at_source : At d (6 + length destination) (withLength source ++ rest)
-  at_source = past d 5 (6 + length destination) (withLength destination) (withLength source ++ rest) at-destination (omega arith)
+  at_source : At d (6 + length destination) (with_length source ++ rest)
+  at_source = past d 5 (6 + length destination) (with_length destination) (with_length source ++ rest) at-destination (omega arith)
 
   -- what stands behind the two IDs
   pub behind-ids : At d (6 + length destination + 1 + length source) rest
-  behind-ids = past d (6 + length destination) (6 + length destination + 1 + length source) (withLength source) rest at_source (omega arith)
+  behind-ids = past d (6 + length destination) (6 + length destination + 1 + length source) (with_length source) rest at_source (omega arith)
 
   -- the IDs themselves
   pub destination-back : part d 6 (length destination) ≡ destination
   destination-back =
-      let there = past d 5 6 (length destination ∷ []) (destination ++ (withLength source ++ rest)) at-destination refl in
-      part_at d 6 (length destination) destination (withLength source ++ rest) there refl
+      let there = past d 5 6 (length destination ∷ []) (destination ++ (with_length source ++ rest)) at-destination refl in
+      part_at d 6 (length destination) destination (with_length source ++ rest) there refl
 
   pub source-back : part d (6 + length destination + 1) (length source) ≡ source
   source-back =
       let there = past d (6 + length destination) (6 + length destination + 1) (length source ∷ []) (source ++ rest) at_source refl in
       part_at d (6 + length destination + 1) (length source) source rest there refl
 
-module _ (v first : ℕ) (destination source d rest : List ℕ) (is : d ≡ first ∷ longFields v destination source ++ rest) (ours : known v ≡ true) where
-  version-read : versionOf d ≡ given v
+module _ (v first : ℕ) (destination source d rest : List ℕ) (is : d ≡ first ∷ long_fields v destination source ++ rest) (ours : known v ≡ true) where
+  version-read : version_of d ≡ given v
   version-read =
       let there = at-version v first destination source d rest is in
       let end = at-destination v first destination source d rest is in
-      let value = ap number (part_at d 1 4 (bytes 4 v) (fromDestination destination source rest) there (bytes-length 4 v)) in
+      let value = ap number (part_at d 1 4 (bytes 4 v) (from_destination destination source rest) there (bytes-length 4 v)) in
       version-found d (omega arith) ∙ ap given (value ∙ number-back 4 v (version-fits v ours))
 
   -- a reader that takes the version, and refuses the type
@@ -147,7 +147,7 @@ module _ (v first : ℕ) (destination source d rest : List ℕ) (is : d ≡ firs
       long-no-version judge d (sym (judged-type judge d (sym version-read) ours taken (rw (← byte) refuses)))
 
 module _ {A : Type 0} (judge : Judge A) (v first : ℕ) (kind : A) (destination source d rest : List ℕ) (w : LongWritten judge v first kind destination source d rest) where
-  pub long-read : long judge d ≡ given (longPlaces v kind destination source)
+  pub long-read : long judge d ≡ given (long_places v kind destination source)
   long-read =
       let byte : first ≡ get_or d 0 0 = rw w.is in
       let version = version-read v first destination source d rest w.is w.ours in
@@ -158,20 +158,20 @@ module _ {A : Type 0} (judge : Judge A) (v first : ℕ) (kind : A) (destination 
 
 -- ---- the header of a packet with a number
 -- the token's place, and where the fields go on
-abbrev pub tokenPlace : (at : ℕ) → TokenField → Token
-tokenPlace at (holding token) = record {
+abbrev pub token_place : (at : ℕ) → TokenField → Token
+token_place at (holding token) = record {
   place = record { at = at + length (smallest (length token)); len = length token };
   end = at + length (smallest (length token)) + length token;
 }
-tokenPlace at absent = record { place = record { at = 0; len = 0 }; end = at }
+token_place at absent = record { place = record { at = 0; len = 0 }; end = at }
 
-pub token_end : (at : ℕ) (field : TokenField) → (tokenPlace at field).end ≡ at + length (tokenBytes field)
+pub token_end : (at : ℕ) (field : TokenField) → (token_place at field).end ≡ at + length (token_bytes field)
 token_end at (holding token) = omega (arith, length-append (smallest (length token)) token)
 token_end at absent = omega arith
 
 -- a token field that was written is read back at a level whose keys write it
-pub token-read : (level : ℕ) (d : List ℕ) (at : ℕ) (field : TokenField) (rest : List ℕ) → writes field level ≡ true → At d at (tokenBytes field ++ rest)
-    → length (tokenBytes field) < 2 ^ 30 → tokenAt level d at ≡ given (tokenPlace at field)
+pub token-read : (level : ℕ) (d : List ℕ) (at : ℕ) (field : TokenField) (rest : List ℕ) → writes field level ≡ true → At d at (token_bytes field ++ rest)
+    → length (token_bytes field) < 2 ^ 30 → token_at level d at ≡ given (token_place at field)
 token-read level d at (holding token) rest has h small =
     let l = length-append (smallest (length token)) token in
     let there : At d at (smallest (length token) ++ (token ++ rest)) = subst (At d at) (append_assoc (smallest (length token)) token rest) h in
@@ -179,12 +179,12 @@ token-read level d at (holding token) rest has h small =
 token-read level d at absent rest has h small = token-none level d at (without-token level has)
 
 -- and so is the token itself
-abbrev pub tokenHeld : TokenField → List ℕ
-tokenHeld (holding token) = token
-tokenHeld absent = []
+abbrev pub token_held : TokenField → List ℕ
+token_held (holding token) = token
+token_held absent = []
 
-token-part : (d : List ℕ) (at : ℕ) (field : TokenField) (rest : List ℕ) → At d at (tokenBytes field ++ rest)
-    → part d (tokenPlace at field).place.at (tokenPlace at field).place.len ≡ tokenHeld field
+token-part : (d : List ℕ) (at : ℕ) (field : TokenField) (rest : List ℕ) → At d at (token_bytes field ++ rest)
+    → part d (token_place at field).place.at (token_place at field).place.len ≡ token_held field
 token-part d at (holding token) rest h =
     let there : At d at (smallest (length token) ++ (token ++ rest)) = subst (At d at) (append_assoc (smallest (length token)) token rest) h in
     let begins-here = past d at (at + length (smallest (length token))) (smallest (length token)) (token ++ rest) there refl in
@@ -193,15 +193,15 @@ token-part d at absent rest h = refl
 
 module _ (p : Plain) where
   -- the token's field and Length
-  abbrev pub tokenFieldAt : ℕ
-  tokenFieldAt = 6 + length p.destination + 1 + length p.source
+  abbrev pub token_field_at : ℕ
+  token_field_at = 6 + length p.destination + 1 + length p.source
 
   abbrev pub length_at : ℕ
-  length_at = tokenFieldAt + length (tokenBytes p.token)
+  length_at = token_field_at + length (token_bytes p.token)
 
 module _ (rules : Rules) (p : Plain) where
-  abbrev pub numberAt : ℕ
-  numberAt = length_at p + length (rules.lengthForm (length_of p))
+  abbrev pub number_at : ℕ
+  number_at = length_at p + length (rules.length_form (length_of p))
 
   abbrev pub places_of : (v level : ℕ) → Header
   places_of v level = record {
@@ -209,41 +209,41 @@ module _ (rules : Rules) (p : Plain) where
     level = level;
     destination = record { at = 6; len = length p.destination };
     source = record { at = 6 + length p.destination + 1; len = length p.source };
-    token = (tokenPlace (tokenFieldAt p) p.token).place;
+    token = (token_place (token_field_at p) p.token).place;
     length' = length_of p;
-    numberAt = numberAt;
+    number_at = number_at;
   }
 
   -- what stands from Length on, and from the token's field on
-  abbrev fromLength : List ℕ → List ℕ
-  fromLength rest = rules.lengthForm (length_of p) ++ rest
+  abbrev from_length : List ℕ → List ℕ
+  from_length rest = rules.length_form (length_of p) ++ rest
 
-  abbrev fromToken : List ℕ → List ℕ
-  fromToken rest = tokenBytes p.token ++ fromLength rest
+  abbrev from_token : List ℕ → List ℕ
+  from_token rest = token_bytes p.token ++ from_length rest
 
 module _ (rules : Rules) (v first : ℕ) (p : Plain) (d rest : List ℕ) (is : d ≡ first ∷ fields rules v p ++ rest) where
   -- behind the IDs
-  pub is-long : d ≡ first ∷ longFields v p.destination p.source ++ fromToken rules p rest
-  unfolding packetFields
+  pub is-long : d ≡ first ∷ long_fields v p.destination p.source ++ from_token rules p rest
+  unfolding packet_fields
   is-long =
       is ∙ ap (λ (s : List ℕ). first ∷ s)
-      (regroup (longFields v p.destination p.source) (tokenBytes p.token) (rules.lengthForm (length_of p)) rest)
+      (regroup (long_fields v p.destination p.source) (token_bytes p.token) (rules.length_form (length_of p)) rest)
 
-  at-token : At d (tokenFieldAt p) (fromToken rules p rest)
-  at-token = behind-ids v first p.destination p.source d (fromToken rules p rest) is-long
+  at-token : At d (token_field_at p) (from_token rules p rest)
+  at-token = behind-ids v first p.destination p.source d (from_token rules p rest) is-long
 
-  pub token_back : part d (tokenPlace (tokenFieldAt p) p.token).place.at (tokenPlace (tokenFieldAt p) p.token).place.len ≡ tokenHeld p.token
-  token_back = token-part d (tokenFieldAt p) p.token (fromLength rules p rest) at-token
+  pub token_back : part d (token_place (token_field_at p) p.token).place.at (token_place (token_field_at p) p.token).place.len ≡ token_held p.token
+  token_back = token-part d (token_field_at p) p.token (from_length rules p rest) at-token
 
-  at_length : At d (length_at p) (fromLength rules p rest)
-  at_length = past d (tokenFieldAt p) (length_at p) (tokenBytes p.token) (fromLength rules p rest) at-token refl
+  at_length : At d (length_at p) (from_length rules p rest)
+  at_length = past d (token_field_at p) (length_at p) (token_bytes p.token) (from_length rules p rest) at-token refl
 
   -- what stands behind Length
-  pub at-number : At d (numberAt rules p) rest
-  at-number = past d (length_at p) (numberAt rules p) (rules.lengthForm (length_of p)) rest at_length refl
+  pub at-number : At d (number_at rules p) rest
+  at-number = past d (length_at p) (number_at rules p) (rules.length_form (length_of p)) rest at_length refl
 
 -- the number stands behind the first byte and the fields
-pub number-place : (rules : Rules) (v : ℕ) (p : Plain) → numberAt rules p ≡ 1 + length (fields rules v p)
+pub number-place : (rules : Rules) (v : ℕ) (p : Plain) → number_at rules p ≡ 1 + length (fields rules v p)
 number-place rules v p = omega (arith, fields-length rules v p.destination p.source p.token (length_of p))
 
 -- a datagram that begins with the fields of p behind a first byte that the reader takes for a level, and goes on as long as Length says
@@ -254,9 +254,9 @@ pub record Written (rules : Rules) (judge : Judge ℕ) (v first level : ℕ) (p 
   pub taken : judge.takes v ≡ true
   pub judges : given level ≡ judge.kind (version v) (first / 16 % 4)
   pub suits : writes p.token level ≡ true
-  pub short-destination : length p.destination ≤ longestId
-  pub short-source : length p.source ≤ longestId
-  pub enough : leastLength ≤ length_of p
+  pub short-destination : length p.destination ≤ longest_id
+  pub short-source : length p.source ≤ longest_id
+  pub enough : least_length ≤ length_of p
   pub all : length_of p ≤ length rest
 
 -- whichever of the three types it is
@@ -273,6 +273,6 @@ header_read rules readable judge v first level p d rest w =
       short-destination = w.short-destination;
       short-source = w.short-source;
     }) in
-    let token = token-read level d (tokenFieldAt p) p.token _ w.suits (at-token rules v first p d rest w.is) (omega (arith, w.fits, readable.small)) in
+    let token = token-read level d (token_field_at p) p.token _ w.suits (at-token rules v first p d rest w.is) (omega (arith, w.fits, readable.small)) in
     let behind = rest_read d (length_at p) rules readable (length_of p) rest (at_length rules v first p d rest w.is) (omega (arith, w.fits, w.all)) w.enough w.all in
-    header-found judge d (sym begin) (sym token) (sym behind ∙ ap (rest_at d) (sym (token_end (tokenFieldAt p) p.token)))
+    header-found judge d (sym begin) (sym token) (sym behind ∙ ap (rest_at d) (sym (token_end (token_field_at p) p.token)))

@@ -7,14 +7,14 @@ use Rattle.header_writing.specs.declared.TokenField.{TokenField}
 use Rattle.header_writing.specs.declared.TokenField.TheVariants as TokenField
 
 -- a token that is handed over with no field for it is not looked at
-abbrev pub tokenOf : TokenField → (token : List ℕ) → Section17.TokenField
-tokenOf TokenField.Holding token = Section17.holding token
-tokenOf TokenField.Absent token = Section17.absent
+abbrev pub token_of : TokenField → (token : List ℕ) → Section17.TokenField
+token_of TokenField.Holding token = Section17.holding token
+token_of TokenField.Absent token = Section17.absent
 
 -- whether keys of a level write it, whatever the token
 abbrev pub WrittenBy : TokenField → (level : ℕ) → Bool → Type 0
-WrittenBy field level r = (token : List ℕ) → r ≡ writes (tokenOf field token) level
+WrittenBy field level r = (token : List ℕ) → r ≡ writes (token_of field token) level
 
-abbrev pub tokenSize : TokenField → (len : ℕ) → ℕ
-tokenSize TokenField.Holding len = length (smallest len) + len
-tokenSize TokenField.Absent len = 0
+abbrev pub token_size : TokenField → (len : ℕ) → ℕ
+token_size TokenField.Holding len = length (smallest len) + len
+token_size TokenField.Absent len = 0

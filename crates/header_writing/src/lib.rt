@@ -1,9 +1,9 @@
 // RFC 9000 section 17.2: long headers, written at the start of a lent buffer.
 ghost use Rattle.std.specs.Prelude.{◌≡◌, ◌∷◌, ◌+◌, ◌^◌, ◌≤◌, ◌<◌, length};
 ghost use Rattle.octets.specs.Octets.{laid, Begins};
-ghost use Rattle.header_forms.specs.Rules.{inForce};
-ghost use Rattle.header_writing.specs.Written.{withLength, longFields, tokenBytes, packetFields, FieldsFit};
-ghost use Rattle.header_writing.specs.Answers.{tokenOf, WrittenBy, tokenSize};
+ghost use Rattle.header_forms.specs.Rules.{in_force};
+ghost use Rattle.header_writing.specs.Written.{with_length, long_fields, token_bytes, packet_fields, FieldsFit};
+ghost use Rattle.header_writing.specs.Answers.{token_of, WrittenBy, token_size};
 
 use integers_writing::{smallest_form, write_smallest, write_two};
 use versions::level;
@@ -17,15 +17,15 @@ pub enum TokenField {
 
 // How many bytes the rules in force write Length in: two, whatever it counts.
 pub fn length_form(_counted: usize) -> usize
-    ensures { result ≡ length (inForce.lengthForm _counted) }
+    ensures { result ≡ length (in_force.length_form _counted) }
 {
     2
 }
 
 // Length, as the rules in force write it.
 fn write_length(buffer: &mut [u8], at: usize, counted: usize)
-    requires { (counted ≤ inForce.limit) × (at + length (inForce.lengthForm counted) ≤ length buffer.old) }
-    ensures { buffer.new ≡ laid buffer.old at (inForce.lengthForm counted) }
+    requires { (counted ≤ in_force.limit) × (at + length (in_force.length_form counted) ≤ length buffer.old) }
+    ensures { buffer.new ≡ laid buffer.old at (in_force.length_form counted) }
 {
     write_two(buffer, at, counted);
 }
@@ -33,7 +33,7 @@ fn write_length(buffer: &mut [u8], at: usize, counted: usize)
 // A connection ID behind its length byte.
 fn write_id(buffer: &mut [u8], at: usize, id: &[u8])
     requires { (length id.now ≤ 255) × (at + 1 + length id.now ≤ length buffer.old) }
-    ensures { buffer.new ≡ laid buffer.old at (withLength id.now) }
+    ensures { buffer.new ≡ laid buffer.old at (with_length id.now) }
 {
     octets::put(buffer, at, id.len() as u8);
     octets::copy(buffer, at + 1, id);
@@ -48,7 +48,7 @@ pub fn write_long(
     source: &[u8],
 ) -> usize
     requires { (length destination.now ≤ 255) × (length source.now ≤ 255) × (7 + length destination.now + length source.now ≤ length buffer.old) }
-    ensures { Begins (first ∷ longFields version destination.now source.now) buffer.old buffer.new result }
+    ensures { Begins (first ∷ long_fields version destination.now source.now) buffer.old buffer.new result }
 {
     octets::put(buffer, 0, first);
     octets::store(buffer, 1, 4, version as u64);
@@ -70,8 +70,8 @@ pub fn is_written_by(field: TokenField, level: u8) -> bool
 
 // How many bytes a token of that length takes with its field.
 pub fn token_form(field: TokenField, len: usize) -> usize
-    requires { tokenSize field len < 2 ^ 30 }
-    ensures { result ≡ tokenSize field len }
+    requires { token_size field len < 2 ^ 30 }
+    ensures { result ≡ token_size field len }
 {
     match field {
         TokenField::Holding => smallest_form(len) + len,
@@ -81,8 +81,8 @@ pub fn token_form(field: TokenField, len: usize) -> usize
 
 // Section 17.2.2: the token behind its length, where the packet has a field for it.
 fn write_token(buffer: &mut [u8], at: usize, field: TokenField, token: &[u8])
-    requires { (length (tokenBytes (tokenOf field token.now)) < 2 ^ 30) × (at + length (tokenBytes (tokenOf field token.now)) ≤ length buffer.old) }
-    ensures { buffer.new ≡ laid buffer.old at (tokenBytes (tokenOf field token.now)) }
+    requires { (length (token_bytes (token_of field token.now)) < 2 ^ 30) × (at + length (token_bytes (token_of field token.now)) ≤ length buffer.old) }
+    ensures { buffer.new ≡ laid buffer.old at (token_bytes (token_of field token.now)) }
 {
     match field {
         TokenField::Holding => {
@@ -104,8 +104,8 @@ pub fn write_fields(
     token: &[u8],
     counted: usize,
 ) -> usize
-    requires { FieldsFit destination.now source.now (tokenOf field token.now) counted buffer.old }
-    ensures { Begins (first ∷ packetFields inForce version destination.now source.now (tokenOf field token.now) counted) buffer.old buffer.new result }
+    requires { FieldsFit destination.now source.now (token_of field token.now) counted buffer.old }
+    ensures { Begins (first ∷ packet_fields in_force version destination.now source.now (token_of field token.now) counted) buffer.old buffer.new result }
 {
     let token_at = write_long(buffer, first, version, destination, source);
     write_token(buffer, token_at, field, token);

@@ -10,7 +10,7 @@ use Rattle.octets.proofs.Numbers.{bytes-length}
 use Rattle.octets.proofs.Buffers.{laid-all, begun_more}
 use Rattle.octets.specs.Text.{ascii}
 use Rattle.hmac.specs.Hmac.{hmac}
-use Rattle.hkdf.specs.Hkdf.{T, Ts, expand, tls13, info, expandLabel}
+use Rattle.hkdf.specs.Hkdf.{T, Ts, expand, tls13, info, expand_label}
 
 -- ---- RFC 5869 section 2.3
 -- a text at a buffer's start, and a one behind it: the first equations are what the writes ensure
@@ -78,8 +78,8 @@ info-written d d1 d2 d3 d4 d5 prefix label L n w at e1 e2 e3 e4 e5 size length-b
 
 -- the first block, cut to the buffer that is lent
 pub expand-label-is : (out secret label block : List ℕ) → length out ≤ 32 → length block ≡ 32 → block ≡ T secret (info label (length out)) 1
-    → laid out 0 (take (length out) block) ≡ expandLabel secret label (length out)
-unfolding expandLabel
+    → laid out 0 (take (length out) block) ≡ expand_label secret label (length out)
+unfolding expand_label
 expand-label-is out secret label block short long e =
     let L : ℕ = length out in
     let size : length (take L block) ≡ L = length-take-le L block (omega arith) in

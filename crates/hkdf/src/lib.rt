@@ -1,7 +1,7 @@
 // HKDF and the labels of TLS 1.3 with SHA-256, by RFC 5869 and RFC 8446 section 7.1.
 ghost use Rattle.std.specs.Prelude.{◌≡◌, ◌+◌, ◌*◌, ◌^◌, ◌≤◌, ◌<◌, length};
 ghost use Rattle.octets.specs.Octets.{begun};
-ghost use Rattle.hkdf.specs.Hkdf.{extract, T, info, expandLabel};
+ghost use Rattle.hkdf.specs.Hkdf.{extract, T, info, expand_label};
 
 use hmac::hmac;
 
@@ -42,7 +42,7 @@ fn write_info(buffer: &mut [u8], label: &[u8], size: u64)
 // RFC 8446 section 7.1: HKDF-Expand-Label, as many bytes as are lent, up to 32.
 pub fn expand_label(secret: &[u8; 32], label: &[u8], out: &mut [u8])
     requires { (length label.now ≤ 249) × (length out.old ≤ 32) }
-    ensures { out.new ≡ expandLabel secret.now label.now (length out.old) }
+    ensures { out.new ≡ expand_label secret.now label.now (length out.old) }
 {
     let mut info = [0u8; 259];
     let end = label.len() + 10;

@@ -10,18 +10,18 @@ use lib.ListN.{length, drop, replicate, length-append, length-replicate}
 use Rattle.octets.specs.Octets.{xor, laid}
 use Rattle.octets.proofs.Xor.{xor-length}
 use Rattle.sha256.specs.Sha256.{hash}
-use Rattle.hmac.specs.Hmac.{actualKey, keyBlock, keyed, ipad, opad, hmac}
+use Rattle.hmac.specs.Hmac.{actual_key, key_block, keyed, ipad, opad, hmac}
 
 -- ---- the actual key
-pub key-as-it-is : (key : List ℕ) → length key ≤ 64 → actualKey key ≡ key
-unfolding actualKey
+pub key-as-it-is : (key : List ℕ) → length key ≤ 64 → actual_key key ≡ key
+unfolding actual_key
 key-as-it-is key l = rw (le-leb (length key) 64 l)
 
-pub key-hashed : (key : List ℕ) → 64 < length key → actualKey key ≡ hash key
-unfolding actualKey
+pub key-hashed : (key : List ℕ) → 64 < length key → actual_key key ≡ hash key
+unfolding actual_key
 key-hashed key l = rw (lt-leb (length key) 64 l)
 
-pub hmac-is : (key actual text : List ℕ) → actual ≡ actualKey key → hash (keyed actual opad ++ hash (keyed actual ipad ++ text)) ≡ hmac key text
+pub hmac-is : (key actual text : List ℕ) → actual ≡ actual_key key → hash (keyed actual opad ++ hash (keyed actual ipad ++ text)) ≡ hmac key text
 unfolding hmac
 hmac-is key actual text is = ap (λ (k : List ℕ). hash (keyed k opad ++ hash (keyed k ipad ++ text))) is
 
@@ -45,13 +45,13 @@ masked (b ∷ key) (suc n) pad l =
     (masked key n pad (le_of_suc-le-suc l) ∙ ap (λ (k : ℕ). xor (key ++ replicate k 0) (replicate n pad)) less)
 
 pub keyed-is : (key : List ℕ) (pad : ℕ) → length key ≤ 64 → laid (replicate 64 pad) 0 (xor key (replicate 64 pad)) ≡ keyed key pad
-unfolding keyed keyBlock
+unfolding keyed key_block
 keyed-is key pad l =
     let place : 0 + length (xor key (replicate 64 pad)) ≡ length key = omega (arith, xor-length key (replicate 64 pad)) in
     ap (λ (n : ℕ). xor key (replicate 64 pad) ++ drop n (replicate 64 pad)) place ∙ masked key 64 pad l
 
 pub keyed-length : (key : List ℕ) (pad : ℕ) → length key ≤ 64 → length (keyed key pad) ≡ 64
-unfolding keyed keyBlock
+unfolding keyed key_block
 keyed-length key pad l =
     xor-length (key ++ replicate (64 - length key) 0) (replicate 64 pad)
     ∙ length-append key (replicate (64 - length key) 0)

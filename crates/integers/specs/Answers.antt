@@ -6,9 +6,9 @@ use Rattle.integers.specs.Integer.{integer}
 use Rattle.integers.specs.declared.Integer.{Integer}
 use Rattle.integers.specs.declared.Integer.TheVariants as Integer
 
-abbrev pub integerAnswer : Integer → Outcome Section16.Integer
-integerAnswer (Integer.Refused n) = refused n
-integerAnswer (Integer.Read value taken) = given (record { value = value; taken = taken })
+abbrev pub integer_answer : Integer → Outcome Section16.Integer
+integer_answer (Integer.Refused n) = refused n
+integer_answer (Integer.Read value taken) = given (record { value = value; taken = taken })
 
 pub record ReadInteger (s : List ℕ) (r : Integer) : Type 0 where
-  pub answer : integerAnswer r ≡ integer s
+  pub answer : integer_answer r ≡ integer s

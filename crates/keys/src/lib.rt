@@ -2,8 +2,8 @@
 // levels of a secret that TLS hands over.
 ghost use Rattle.std.specs.Prelude.{◌≡◌, ◌≤◌, length};
 ghost use Rattle.octets.specs.Outcome as Outcome;
-ghost use Rattle.header_fields.specs.Fields.{longestId};
-ghost use Rattle.keys.specs.InitialKeys.{sideSecret};
+ghost use Rattle.header_fields.specs.Fields.{longest_id};
+ghost use Rattle.keys.specs.InitialKeys.{side_secret};
 ghost use Rattle.keys.specs.InstalledKeys as Section51;
 ghost use Rattle.keys.specs.Answers.{side_of, Made, InitialKeysMade, KeysInstalled};
 
@@ -34,8 +34,8 @@ pub struct MadeKeys {
 
 // Section 5.2: the secret of one side.
 fn secret_of(number: u32, destination: &[u8], side: Side) -> [u8; 32]
-    requires { length destination.now ≤ longestId }
-    ensures { result ≡ sideSecret number destination.now (side_of side) }
+    requires { length destination.now ≤ longest_id }
+    ensures { result ≡ side_secret number destination.now (side_of side) }
 {
     let salt = versions::salt(number);
     let initial = hkdf::extract(&salt, destination);

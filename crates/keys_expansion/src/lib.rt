@@ -1,9 +1,9 @@
 // RFC 9001 section 5.1: a sender's keys, from its secret.
 ghost use Rattle.std.specs.Prelude.{◌≡◌, ◌≤◌, length, take};
-ghost use Rattle.hkdf.specs.Hkdf.{expandLabel};
+ghost use Rattle.hkdf.specs.Hkdf.{expand_label};
 ghost use Rattle.versions.specs.Versions as Versions;
 ghost use Rattle.protection.specs.KeyRecord.{keys_of};
-ghost use Rattle.keys_expansion.specs.Expansion.{label_of, keysFrom};
+ghost use Rattle.keys_expansion.specs.Expansion.{label_of, keys_from};
 
 use protection::Keys;
 
@@ -41,7 +41,7 @@ fn label_of(number: u32, part: Part) -> Label
 // One part of a sender's keys, by its label in the version.
 fn expand_part(number: u32, part: Part, secret: &[u8; 32], out: &mut [u8])
     requires { length out.old ≤ 32 }
-    ensures { out.new ≡ expandLabel secret.now (label_of part (Versions.version number)) (length out.old) }
+    ensures { out.new ≡ expand_label secret.now (label_of part (Versions.version number)) (length out.old) }
 {
     let label = label_of(number, part);
     let text = label.0;
@@ -51,7 +51,7 @@ fn expand_part(number: u32, part: Part, secret: &[u8; 32], out: &mut [u8])
 
 // A sender's keys of a level, from its secret there.
 pub fn keys_from(number: u32, level: u8, secret: &[u8; 32]) -> Keys
-    ensures { keys_of result ≡ keysFrom number level secret.now }
+    ensures { keys_of result ≡ keys_from number level secret.now }
 {
     let mut key = [0u8; 16];
     expand_part(number, Part::Key, secret, &mut key);

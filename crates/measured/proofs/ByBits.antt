@@ -45,23 +45,23 @@ both_words hi lo h l =
 
 -- ---- GHASH
 -- what is left to chain, at a place
-abbrev pub onFrom : ℕ → ℕ → List ℕ → ℕ → ℕ
-onFrom h y s at = chained h y (blocks ((length s - at) / 16) (drop at s))
+abbrev pub on_from : ℕ → ℕ → List ℕ → ℕ → ℕ
+on_from h y s at = chained h y (blocks ((length s - at) / 16) (drop at s))
 
-pub hash-start : (h : ℕ) (s : List ℕ) → onFrom h 0 s 0 ≡ ghash h s
+pub hash-start : (h : ℕ) (s : List ℕ) → on_from h 0 s 0 ≡ ghash h s
 unfolding ghash
 hash-start h s =
     let all : length s - 0 ≡ length s = omega arith in
     ap (λ (n : ℕ). chained h 0 (blocks (n / 16) s)) all
 
-pub hash-turn : (h y y' : ℕ) (s : List ℕ) (at : ℕ) → 16 ≤ length s - at → y' ≡ bit_xor y (number (take 16 (drop at s))) • h → onFrom h y' s (at + 16) ≡ onFrom h y s at
+pub hash-turn : (h y y' : ℕ) (s : List ℕ) (at : ℕ) → 16 ≤ length s - at → y' ≡ bit_xor y (number (take 16 (drop at s))) • h → on_from h y' s (at + 16) ≡ on_from h y s at
 unfolding chained blocks
 hash-turn h y y' s at l e =
     let n : ℕ = (length s - (at + 16)) / 16 in
     let more : suc n ≡ (length s - at) / 16 = omega arith in
     ap₂ (λ (x : ℕ) (r : List ℕ). chained h x (blocks n r)) e (sym (drop-drop 16 at s)) ∙ ap (λ (m : ℕ). chained h y (blocks m (drop at s))) more
 
-pub hash-end : (h y : ℕ) (s : List ℕ) (at : ℕ) → length s - at < 16 → onFrom h y s at ≡ y
+pub hash-end : (h y : ℕ) (s : List ℕ) (at : ℕ) → length s - at < 16 → on_from h y s at ≡ y
 unfolding chained blocks
 hash-end h y s at l =
     let none : (length s - at) / 16 ≡ 0 = omega arith in

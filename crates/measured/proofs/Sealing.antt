@@ -10,8 +10,8 @@ use lib.Seq.{take_at}
 use Rattle.octets.specs.Octets.{laid, begun, placed}
 use Rattle.octets.specs.Outcome.{Outcome, refused, given}
 use Rattle.octets.proofs.Buffers.{goes_on}
-use Rattle.gcm.specs.Gcm.{hashKey, tagBy}
-use Rattle.gcm_counter.specs.Counter.{streamBy}
+use Rattle.gcm.specs.Gcm.{hash_key, tag_by}
+use Rattle.gcm_counter.specs.Counter.{stream_by}
 use Rattle.gcm_counter.proofs.Laws.{stream-by-length}
 use Rattle.measured.specs.Measured.{streaming, sealing, answer}
 
@@ -35,10 +35,10 @@ module _ (w nonce text out : List ℕ) where
   unfolding streaming
   no-room-to-stream h = answered asked (refused 1) out (rw (lt-leb (length text) (length out) h))
 
-  pub streamed : (d : List ℕ) → length text ≤ length out → d ≡ laid out 0 (streamBy w nonce text) → Answered asked out 1 d
+  pub streamed : (d : List ℕ) → length text ≤ length out → d ≡ laid out 0 (stream_by w nonce text) → Answered asked out 1 d
   unfolding streaming
   streamed d h e =
-      let c : List ℕ = streamBy w nonce text in
+      let c : List ℕ = stream_by w nonce text in
       let passed = answered asked (given c) out (rw (le-leb (length text) (length out) h)) in
       (passed.0, laid-begun out c d e ∙ passed.1)
 
@@ -63,17 +63,17 @@ module _ (w nonce associated text out : List ℕ) where
 
       module _ (room : length text + 16 ≤ length out) {d d' t : List ℕ} {h : ℕ} where
         -- each equation is what a call ensures
-        pub sealed : d ≡ laid out 0 (streamBy w nonce text) → h ≡ hashKey w
-            → t ≡ tagBy w h nonce (associated ++ [] ++ []) (take (length text - 0) d) → d' ≡ laid d (length text) t → Answered wanted out 1 d'
+        pub sealed : d ≡ laid out 0 (stream_by w nonce text) → h ≡ hash_key w
+            → t ≡ tag_by w h nonce (associated ++ [] ++ []) (take (length text - 0) d) → d' ≡ laid d (length text) t → Answered wanted out 1 d'
         unfolding sealing
         sealed ed eh et ed' =
-            let c : List ℕ = streamBy w nonce text in
+            let c : List ℕ = stream_by w nonce text in
             let size : length text ≡ length c = sym (stream-by-length w nonce text) in
             let all : length text - 0 ≡ length text = omega arith in
             let none : associated ++ [] ++ [] ≡ associated = append-nil (associated ++ []) ∙ append-nil associated in
             let begin : d ≡ begun c out = laid-begun out c d ed in
             let front : take (length text - 0) d ≡ c = ap₂ take all begin ∙ take_at c (drop (length c) out) (length text) (sym size) in
-            let tag : t ≡ tagBy w (hashKey w) nonce associated c = et ∙ ap₂ (λ (k : ℕ) (a : List ℕ). tagBy w k nonce a (take (length text - 0) d)) eh none ∙ ap (tagBy w (hashKey w) nonce associated) front in
-            let o : Outcome (List ℕ) = given (c ++ tagBy w (hashKey w) nonce associated c) in
+            let tag : t ≡ tag_by w (hash_key w) nonce associated c = et ∙ ap₂ (λ (k : ℕ) (a : List ℕ). tag_by w k nonce a (take (length text - 0) d)) eh none ∙ ap (tag_by w (hash_key w) nonce associated) front in
+            let o : Outcome (List ℕ) = given (c ++ tag_by w (hash_key w) nonce associated c) in
             let passed = answered wanted o out (rw (le-leb (length associated) 65536 fit, le-leb (length text) 65536 fits, le-leb (length text + 16) (length out) room)) in
             (passed.0, goes_on c t out d d' (length text) begin ed' size ∙ ap (λ (x : List ℕ). begun (c ++ x) out) tag ∙ passed.1)

@@ -2,8 +2,8 @@
 use Rattle.std.specs.Prelude.{ℕ, zero, suc, ◌+◌, List, ◌++◌, leb, length, take, drop}
 use Rattle.octets.specs.Outcome.{Outcome, refused, given, unless, ◌>>◌}
 use Rattle.aes_byte_rounds.specs.Cipher.{encrypted}
-use Rattle.gcm.specs.Gcm.{hashKey, tagBy}
-use Rattle.gcm_counter.specs.Counter.{streamBy}
+use Rattle.gcm.specs.Gcm.{hash_key, tag_by}
+use Rattle.gcm_counter.specs.Counter.{stream_by}
 
 -- the first n blocks of some bytes enciphered, and the rest as it was
 unfoldable pub enciphered : List ℕ → ℕ → List ℕ → List ℕ
@@ -14,7 +14,7 @@ enciphered w (suc n) s = encrypted w (take 16 s) ++ enciphered w n (drop 16 s)
 unfoldable pub streaming : List ℕ → List ℕ → List ℕ → ℕ → Outcome (List ℕ)
 streaming w nonce text room = do
   unless 1 (leb (length text) room)
-  given (streamBy w nonce text)
+  given (stream_by w nonce text)
 
 -- GCM's cipher and tag of a text, where neither it nor the associated data is over 65,536 bytes and both go into the room
 unfoldable pub sealing : List ℕ → List ℕ → List ℕ → List ℕ → ℕ → Outcome (List ℕ)
@@ -22,7 +22,7 @@ sealing w nonce associated text room = do
   unless 1 (leb (length associated) 65536)
   unless 1 (leb (length text) 65536)
   unless 1 (leb (length text + 16) room)
-  given (streamBy w nonce text ++ tagBy w (hashKey w) nonce associated (streamBy w nonce text))
+  given (stream_by w nonce text ++ tag_by w (hash_key w) nonce associated (stream_by w nonce text))
 
 -- 1 for what is given, 0 for what is refused
 abbrev pub answer : Outcome (List ℕ) → ℕ

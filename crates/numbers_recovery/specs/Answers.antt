@@ -7,9 +7,9 @@ use Rattle.numbers_recovery.specs.Recovery.{recovered}
 use Rattle.numbers_recovery.specs.declared.Recovered.{Recovered}
 use Rattle.numbers_recovery.specs.declared.Recovered.TheVariants as Recovered
 
-abbrev pub recoveredAnswer : Recovered → Outcome ℕ
-recoveredAnswer (Recovered.Refused n) = refused n
-recoveredAnswer (Recovered.Full m) = given m.0
+abbrev pub recovered_answer : Recovered → Outcome ℕ
+recovered_answer (Recovered.Refused n) = refused n
+recovered_answer (Recovered.Full m) = given m.0
 
 pub record Recover (e : ℕ) (t : TruncatedPn) (n : ℕ) (r : Recovered) : Type 0 where
-  pub answer : recoveredAnswer r ≡ recovered e t.0 n
+  pub answer : recovered_answer r ≡ recovered e t.0 n

@@ -11,7 +11,7 @@ use borrow.Author.Tests.{le-leb, lt-leb, lt-ltb, le-ltb, leb-true, leb-false, lt
 use Rattle.octets.specs.Outcome.{refused, given}
 use Rattle.octets.proofs.Outcome.{passed, given-same}
 use Rattle.numbers.specs.Numbers.{numbers, window, half}
-use Rattle.numbers_shortening.specs.Shortening.{Acknowledged, nothing, up_to, coverable, ahead, gap, halvings, bitLength, smallestLength, shortened}
+use Rattle.numbers_shortening.specs.Shortening.{Acknowledged, nothing, up_to, coverable, ahead, gap, halvings, bit_length, smallest_length, shortened}
 
 -- ---- the gap
 pub uncovered : (g : ℕ) → half 4 ≤ g → coverable g ≡ refused 14
@@ -62,12 +62,12 @@ gap-sized m a is = ahead-sized m a (sym (passed 10 (ltb m numbers) (ahead m a) (
 
 -- ---- the smallest length
 module _ (m : ℕ) (a : Acknowledged) where
-  pub smallest-refused : {n : ℕ} → refused n ≡ gap m a → smallestLength m a ≡ refused n
-  unfolding smallestLength
+  pub smallest-refused : {n : ℕ} → refused n ≡ gap m a → smallest_length m a ≡ refused n
+  unfolding smallest_length
   smallest-refused e = rw (← e)
 
-  pub smallest-given : {g : ℕ} → given g ≡ gap m a → smallestLength m a ≡ given ((bitLength g + 1 + 7) / 8)
-  unfolding smallestLength
+  pub smallest-given : {g : ℕ} → given g ≡ gap m a → smallest_length m a ≡ given ((bit_length g + 1 + 7) / 8)
+  unfolding smallest_length
   smallest-given e = rw (← e)
 
 no-halvings : (k : ℕ) → halvings k 0 ≡ 0
@@ -89,27 +89,27 @@ bits (suc j) (suc k) (suc n) le low high =
     let q = two-pow-succ (suc j) in
     rw (bits j k (suc n / 2) (omega arith) (omega arith) (omega arith)) (omega arith)
 
-pub bit_length : (g : ℕ) → 0 < g → g < 2 ^ 64 → bitLength g ≡ 64 - count_leading_zeros 64 g
-bit_length g some small =
+pub bit-length : (g : ℕ) → 0 < g → g < 2 ^ 64 → bit_length g ≡ 64 - count_leading_zeros 64 g
+bit-length g some small =
     let top = leading_top 64 g some small in
     bits top.0 g g (omega arith) top.2 top.3 ∙ omega (arith, top.1)
 
 -- a length covers the gap just where it is at least the smallest
 module _ (g n : ℕ) (some : 0 < g) (small : g < 2 ^ 64) (positive : 1 ≤ n) where
-  pub covers-from : (bitLength g + 1 + 7) / 8 ≤ n → g < half n
+  pub covers-from : (bit_length g + 1 + 7) / 8 ≤ n → g < half n
   covers-from h =
       let top = leading_top 64 g some small in
       let is = bits top.0 g g (omega arith) top.2 top.3 in
       let fits : suc top.0 ≤ 8 * n - 1 = omega (arith, is) in
       omega (arith, top.3, pow_mono fits)
 
-  pub covers-only : g < half n → (bitLength g + 1 + 7) / 8 ≤ n
+  pub covers-only : g < half n → (bit_length g + 1 + 7) / 8 ≤ n
   covers-only h = by (leb (8 * n - 1) top.0) refl
     where
       top : (j : ℕ) × (count_leading_zeros 64 g + suc j ≡ 64) × (2 ^ j ≤ g) × (g < 2 ^ suc j)
       top = leading_top 64 g some small
 
-      by : (b : Bool) → leb (8 * n - 1) top.0 ≡ b → (bitLength g + 1 + 7) / 8 ≤ n
+      by : (b : Bool) → leb (8 * n - 1) top.0 ≡ b → (bit_length g + 1 + 7) / 8 ≤ n
       by true p = omega (arith, pow_mono (leb-true (8 * n - 1) top.0 p), top.2)
       by false p = omega (arith, leb-false (8 * n - 1) top.0 p, bits top.0 g g (omega arith) top.2 top.3)
 

@@ -32,14 +32,14 @@ halvings (suc k) zero = 0
 halvings (suc k) (suc n) = 1 + halvings k (suc n / 2)
 
 -- the bit length
-abbrev pub bitLength : ℕ → ℕ
-bitLength n = halvings n n
+abbrev pub bit_length : ℕ → ℕ
+bit_length n = halvings n n
 
 -- the bit length of the gap with one added, divided by eight and rounded up
-unfoldable pub smallestLength : ℕ → Acknowledged → Outcome ℕ
-smallestLength m a = do
+unfoldable pub smallest_length : ℕ → Acknowledged → Outcome ℕ
+smallest_length m a = do
   g ← gap m a
-  given ((bitLength g + 1 + 7) / 8)
+  given ((bit_length g + 1 + 7) / 8)
 
 -- the number in n bytes
 unfoldable pub shortened : ℕ → Acknowledged → (n : ℕ) → Outcome ℕ

@@ -1,7 +1,7 @@
 // RFC 9000 section 17.1: the number that is sent, in the fewest bytes that tell it apart.
 ghost use Rattle.std.specs.Prelude.{◌≡◌};
 ghost use Rattle.numbers_shortening.specs.Shortening.{coverable, gap};
-ghost use Rattle.numbers_shortening.specs.Answers.{acknowledgedOf, gapAnswer, SmallestLength, Shorten};
+ghost use Rattle.numbers_shortening.specs.Answers.{acknowledged_of, gap_answer, SmallestLength, Shorten};
 
 use numbers::{FullPn, NUMBERS, TruncatedPn};
 use octets::refusal;
@@ -39,7 +39,7 @@ pub enum Shortened {
 
 // The gap, where some length covers it.
 fn covered(distance: u64) -> Gap
-    ensures { gapAnswer result ≡ coverable distance }
+    ensures { gap_answer result ≡ coverable distance }
 {
     if UNCOVERED <= distance {
         return Gap::Refused(refusal::GAP);
@@ -49,7 +49,7 @@ fn covered(distance: u64) -> Gap
 
 // How far the number stands above the greatest acknowledged, or the number plus one if none is.
 fn gap_above(number: FullPn, acknowledged: Acknowledged) -> Gap
-    ensures { gapAnswer result ≡ gap number.0 (acknowledgedOf acknowledged) }
+    ensures { gap_answer result ≡ gap number.0 (acknowledged_of acknowledged) }
 {
     if NUMBERS <= number.0 {
         return Gap::Refused(refusal::RANGE);

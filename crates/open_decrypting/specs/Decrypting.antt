@@ -10,38 +10,38 @@ use Rattle.open_decrypting.specs.declared.Opening.TheVariants as Opening
 
 -- docs/SCOPE.md, "Answers": the full number and its length, the header's length with the number in it, the payload's, and the bytes used
 pub record Report : Type 0 where
-  pub fullNumber : ℕ
-  pub numberLength : ℕ
-  pub headerLength : ℕ
-  pub payloadLength : ℕ
-  pub bytesUsed : ℕ
+  pub full_number : ℕ
+  pub number_length : ℕ
+  pub header_length : ℕ
+  pub payload_length : ℕ
+  pub bytes_used : ℕ
 
-abbrev pub reportOf : Code.Opened → Report
-reportOf o = record {
-  fullNumber = o.number.0;
-  numberLength = o.number_length;
-  headerLength = o.header_length;
-  payloadLength = o.payload_length;
-  bytesUsed = o.used;
+abbrev pub report_of : Code.Opened → Report
+report_of o = record {
+  full_number = o.number.0;
+  number_length = o.number_length;
+  header_length = o.header_length;
+  payload_length = o.payload_length;
+  bytes_used = o.used;
 }
 
-abbrev pub openingAnswer : Opening → Outcome Report
-openingAnswer (Opening.Refused n) = refused n
-openingAnswer (Opening.Opened o) = given (reportOf o)
+abbrev pub opening_answer : Opening → Outcome Report
+opening_answer (Opening.Refused n) = refused n
+opening_answer (Opening.Opened o) = given (report_of o)
 
 -- the lengths are those of the plain header and of the payload
 abbrev pub reported : Outcome Opened → Outcome Report
 reported (refused n) = refused n
 reported (given o) = given (record {
-  fullNumber = o.packetNumber;
-  numberLength = o.numberLength;
-  headerLength = length o.plain;
-  payloadLength = length o.payload;
-  bytesUsed = o.used;
+  full_number = o.packet_number;
+  number_length = o.number_length;
+  header_length = length o.plain;
+  payload_length = length o.payload;
+  bytes_used = o.used;
 })
 
 -- what an outcome leaves: the answer, the number expected then, and the lent buffer
 pub record Leaves (o : Outcome Opened) (expected next : ℕ) (before then : List ℕ) (r : Opening) : Type 0 where
-  pub answer : openingAnswer r ≡ reported o
+  pub answer : opening_answer r ≡ reported o
   pub number : next ≡ after expected o
   pub buffer : then ≡ placed (output o) before

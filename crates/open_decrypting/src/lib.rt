@@ -3,7 +3,7 @@ ghost use Rattle.std.specs.Prelude.{◌≡◌, ◌+◌, ◌≤◌, ◌<◌, max,
 ghost use Rattle.numbers.specs.Numbers.{numbers};
 ghost use Rattle.protection.specs.KeyRecord.{keys_of};
 ghost use Rattle.open_unmasking.specs.Parts.{Within};
-ghost use Rattle.open_revealing.specs.Revealing.{tagLeft};
+ghost use Rattle.open_revealing.specs.Revealing.{tag_left};
 ghost use Rattle.open_decrypting.specs.Decrypting.{Leaves};
 
 use numbers::FullPn;
@@ -41,7 +41,7 @@ pub fn decrypt(
     out: &mut [u8],
 ) -> Opening
     requires { (Within datagram.now packet) × (packet.place + packet.length ≤ length out.old + 16) × (packet.number.0 < numbers) }
-    ensures { Leaves (tagLeft (keys_of keys) datagram.now packet) expected.old expected.new out.old out.new result }
+    ensures { Leaves (tag_left (keys_of keys) datagram.now packet) expected.old expected.new out.old out.new result }
 {
     let key = keys.key;
     let iv = keys.iv;

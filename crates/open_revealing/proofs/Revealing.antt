@@ -8,10 +8,10 @@ use Rattle.octets.specs.Octets.{bytes, number as spells}
 use Rattle.octets.proofs.Numbers.{byte_power, number-back}
 use Rattle.numbers_recovery.specs.Recovery.{decoded, recovered}
 use Rattle.numbers.specs.declared.FullPn.{FullPn}
-use Rattle.header_forms.specs.Forms.{Form, reservedBits}
+use Rattle.header_forms.specs.Forms.{Form, reserved_bits}
 use Rattle.protection.specs.Protection.{Keys}
 use Rattle.protection.specs.Clear.{unprotected}
-use Rattle.protection.specs.AesGcm.{aesGcm}
+use Rattle.protection.specs.AesGcm.{aes_gcm}
 use Rattle.protection.proofs.Unprotecting.{number-some, number-few, recovery-refused, recovery-given, unprotect-reserved, unprotect-range, unprotect-judged}
 use Rattle.open_unmasking.specs.Unmasking.{Unmasks}
 use Rattle.open_unmasking.specs.declared.Bare.{Bare}
@@ -19,15 +19,15 @@ use Rattle.open_unmasking.specs.declared.Packet.{Packet}
 use Rattle.open_revealing.specs.Revealing.{Placed, Revealed}
 
 module _ (form : Form) (k : Keys) (e : ℕ) (d : List ℕ) (place len : ℕ) (placed : Placed e d place len) {b : Bare} (u : Unmasks form k d place b) where
-  pub bits-refused : (reservedBits form b.first ≡ 0 → ⊥) → unprotected aesGcm form k e (take (place + len) d) place ≡ refused 9
+  pub bits-refused : (reserved_bits form b.first ≡ 0 → ⊥) → unprotected aes_gcm form k e (take (place + len) d) place ≡ refused 9
   bits-refused bits = unprotect-reserved e u.bare len placed.headed placed.enough placed.all bits
 
-  module _ (zeros : reservedBits form b.first ≡ 0) where
+  module _ (zeros : reserved_bits form b.first ≡ 0) where
     same_number : decoded e b.truncated.0 b.count ≡ decoded e (spells (bytes b.count b.truncated.0)) b.count
     same_number = rw (number-back b.count b.truncated.0 (rw (byte_power b.count) u.small))
 
     pub range-refused : {why : ℕ} → refused why ≡ recovered e b.truncated.0 b.count
-        → unprotected aesGcm form k e (take (place + len) d) place ≡ refused why
+        → unprotected aes_gcm form k e (take (place + len) d) place ≡ refused why
     range-refused is =
         let r = recovery-refused e b.truncated.0 b.count placed.fair (number-some u.bare) (number-few u.bare) u.small is in
         unprotect-range e u.bare len placed.headed placed.enough placed.all zeros (rw (← same_number) r.1) ∙ ap refused (sym r.0)

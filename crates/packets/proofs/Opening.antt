@@ -11,14 +11,14 @@ use Rattle.octets.specs.Outcome.{refused, given}
 use Rattle.numbers.specs.Numbers.{numbers}
 use Rattle.versions.specs.Versions.{known}
 use Rattle.header_forms.specs.Rules.{Rules}
-use Rattle.header_forms.specs.Forms.{longForm, formed}
-use Rattle.header_fields.specs.Fields.{tagLength}
+use Rattle.header_forms.specs.Forms.{long_form, formed}
+use Rattle.header_fields.specs.Fields.{tag_length}
 use Rattle.header_reading.specs.PacketHeader.{Header, header}
 use Rattle.header_reading.proofs.PacketHeaders.{header-there}
 use Rattle.protection.specs.Suite.{Suite}
 use Rattle.protection.specs.Protection.{Keys}
 use Rattle.protection.specs.Clear.{unprotected}
-use Rattle.packets.specs.Packet.{ofKeys, opened}
+use Rattle.packets.specs.Packet.{of_keys, opened}
 
 module _ (suite : Suite) (rules : Rules) (k : Keys) (e : ℕ) (d : List ℕ) (room : ℕ) where
   pub open-expected : numbers < e → opened suite rules k e d room ≡ refused 10
@@ -34,25 +34,25 @@ module _ (suite : Suite) (rules : Rules) (k : Keys) (e : ℕ) (d : List ℕ) (ro
     open-version h = rw (expects, h)
 
     module _ (ours : known k.version ≡ true) where
-      pub open-form : {n : ℕ} → refused n ≡ formed rules longForm d → opened suite rules k e d room ≡ refused n
+      pub open-form : {n : ℕ} → refused n ≡ formed rules long_form d → opened suite rules k e d room ≡ refused n
       unfolding opened
       open-form h = rw (expects, ours, ← h)
 
-      module _ (long : given tt ≡ formed rules longForm d) where
+      module _ (long : given tt ≡ formed rules long_form d) where
         -- whatever the header's reading refuses
-        pub open-header : {n : ℕ} → refused n ≡ header (ofKeys k) d → opened suite rules k e d room ≡ refused n
+        pub open-header : {n : ℕ} → refused n ≡ header (of_keys k) d → opened suite rules k e d room ≡ refused n
         unfolding opened
         open-header h = rw (expects, ours, ← long, ← h)
 
-        module _ {h : Header} (read : given h ≡ header (ofKeys k) d) where
-          whole : length (take (h.numberAt + h.length') d) ≡ h.numberAt + h.length'
-          whole = length-take-le (h.numberAt + h.length') d (header-there (ofKeys k) d read).all
+        module _ {h : Header} (read : given h ≡ header (of_keys k) d) where
+          whole : length (take (h.number_at + h.length') d) ≡ h.number_at + h.length'
+          whole = length-take-le (h.number_at + h.length') d (header-there (of_keys k) d read).all
 
-          pub open-room : room < h.numberAt + h.length' - tagLength → opened suite rules k e d room ≡ refused 8
+          pub open-room : room < h.number_at + h.length' - tag_length → opened suite rules k e d room ≡ refused 8
           unfolding opened
-          open-room l = rw (expects, ours, ← long, ← read, whole, lt-leb (h.numberAt + h.length' - tagLength) room l)
+          open-room l = rw (expects, ours, ← long, ← read, whole, lt-leb (h.number_at + h.length' - tag_length) room l)
 
-          pub open-protected : h.numberAt + h.length' - tagLength ≤ room
-              → opened suite rules k e d room ≡ unprotected suite longForm k e (take (h.numberAt + h.length') d) h.numberAt
+          pub open-protected : h.number_at + h.length' - tag_length ≤ room
+              → opened suite rules k e d room ≡ unprotected suite long_form k e (take (h.number_at + h.length') d) h.number_at
           unfolding opened
-          open-protected l = rw (expects, ours, ← long, ← read, whole, le-leb (h.numberAt + h.length' - tagLength) room l)
+          open-protected l = rw (expects, ours, ← long, ← read, whole, le-leb (h.number_at + h.length' - tag_length) room l)

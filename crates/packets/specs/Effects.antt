@@ -4,12 +4,12 @@ use Rattle.octets.specs.Outcome.{Outcome, refused, given}
 use Rattle.header_forms.specs.Rules.{Rules}
 use Rattle.header_writing.specs.Written.{Plain}
 use Rattle.protection.specs.Protection.{Keys}
-use Rattle.protection.specs.Clear.{Opened, whatWasProtected}
-use Rattle.packets.specs.Packet.{clearOf}
+use Rattle.protection.specs.Clear.{Opened, what_was_protected}
+use Rattle.packets.specs.Packet.{clear_of}
 
 -- all that went into the packet: its plain header, number and payload, and how long it is
-abbrev pub whatWasSealed : Rules → Keys → Plain → (packet : List ℕ) → Opened
-whatWasSealed rules k p packet = whatWasProtected (clearOf rules k.version k.level p) packet
+abbrev pub what_was_sealed : Rules → Keys → Plain → (packet : List ℕ) → Opened
+what_was_sealed rules k p packet = what_was_protected (clear_of rules k.version k.level p) packet
 
 -- plain header, then payload
 abbrev pub written : Opened → List ℕ
@@ -22,4 +22,4 @@ output (given o) = given (written o)
 -- the larger of what was expected and one above the opened number; refused, as it was
 abbrev pub after : (expected : ℕ) → Outcome Opened → ℕ
 after e (refused n) = e
-after e (given o) = max e (o.packetNumber + 1)
+after e (given o) = max e (o.packet_number + 1)

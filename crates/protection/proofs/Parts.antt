@@ -8,7 +8,7 @@ use lib.Seq.{take_all, take-take, drop-drop}
 use Rattle.octets.specs.Octets.{part}
 use Rattle.octets.proofs.Parts.{part_length, drop-taken}
 use Rattle.octets.proofs.Xor.{xor-length}
-use Rattle.protection.specs.Protection.{onNumber}
+use Rattle.protection.specs.Protection.{on_number}
 
 -- behind a number of n bytes that begins at a place: the packet's ciphertext, and its tag
 module _ (d : List ℕ) (at len n : ℕ) (all : at + len ≤ length d) (enough : n + 16 ≤ len) where
@@ -39,6 +39,6 @@ module _ (d : List ℕ) (at len n : ℕ) (all : at + len ≤ length d) (enough :
 pub mask-rest : (mask : List ℕ) → length mask ≡ 16 → part mask 1 15 ≡ drop 1 mask
 mask-rest mask sixteen = take_all 15 (drop 1 mask) (omega (arith, length-drop 1 mask))
 
-pub masked-length : (mask short : List ℕ) → length (onNumber mask short) ≡ length short
-unfolding onNumber
+pub masked-length : (mask short : List ℕ) → length (on_number mask short) ≡ length short
+unfolding on_number
 masked-length mask short = xor-length short (drop 1 mask)

@@ -18,12 +18,12 @@ use Rattle.octets.proofs.Numbers.{number-below}
 use Rattle.numbers.specs.Numbers.{numbers, window}
 use Rattle.numbers_recovery.specs.Recovery.{decoded, recovered}
 use Rattle.numbers_recovery.proofs.Recovery.{recover-range, recover-given}
-use Rattle.header_forms.specs.Forms.{Form, reservedBits}
-use Rattle.header_fields.specs.Fields.{leastLength, tagLength}
+use Rattle.header_forms.specs.Forms.{Form, reserved_bits}
+use Rattle.header_fields.specs.Fields.{least_length, tag_length}
 use Rattle.protection.specs.Suite.{Suite}
-use Rattle.protection.specs.Protection.{Keys, nonce, onFirst, onNumber, sampleOf}
+use Rattle.protection.specs.Protection.{Keys, nonce, on_first, on_number, sample_of}
 use Rattle.protection.specs.Clear.{mask_of, Opened, revealed, decrypted, unprotected}
-use Rattle.protection.specs.Parts.{Unmasked, plainIn, cipherIn, tagIn}
+use Rattle.protection.specs.Parts.{Unmasked, plain_in, cipher_in, tag_in}
 use Rattle.protection.proofs.Parts.{cipher-part, tag-part, masked-length}
 
 -- ---- the number's bytes
@@ -39,7 +39,7 @@ module _ {suite : Suite} {form : Form} {k : Keys} {d : List ℕ} {at : ℕ} {mas
   number-length h = ap length u.its-number ∙ masked-length mask (part d at n) ∙ part_length d at n h
 
   pub number-bytes : Bytes d → Bytes mask → Bytes short
-  unfolding onNumber
+  unfolding on_number
   number-bytes bs ms = rw u.its-number (xor_bytes (part d at n) (drop 1 mask) (part_bytes d at n bs) (drop-bytes 1 mask ms))
 
   pub number_small : at + n ≤ length d → Bytes short → number short < window n
@@ -70,21 +70,21 @@ module _ (e t n : ℕ) (fair : e ≤ numbers) (some : 1 ≤ n) (few : n ≤ 4) (
 -- ---- the packet that begins the datagram has the same parts
 record There (suite : Suite) (form : Form) (k : Keys) (d : List ℕ) (at len : ℕ) (mask : List ℕ) (first n : ℕ) (short : List ℕ) : Type 0 where
   mask-there : mask_of suite k.hp (take (at + len) d) at ≡ mask
-  first-there : onFirst form mask (get_or (take (at + len) d) 0 0) ≡ first
-  short-there : onNumber mask (part (take (at + len) d) at n) ≡ short
+  first-there : on_first form mask (get_or (take (at + len) d) 0 0) ≡ first
+  short-there : on_number mask (part (take (at + len) d) at n) ≡ short
   fields-there : part (take (at + len) d) 1 (at - 1) ≡ part d 1 (at - 1)
-  cipher-there : take (length (drop (at + n) (take (at + len) d)) - tagLength) (drop (at + n) (take (at + len) d)) ≡ cipherIn d at len n
-  tag-there : drop (length (drop (at + n) (take (at + len) d)) - tagLength) (drop (at + n) (take (at + len) d)) ≡ tagIn d at len
+  cipher-there : take (length (drop (at + n) (take (at + len) d)) - tag_length) (drop (at + n) (take (at + len) d)) ≡ cipher_in d at len n
+  tag-there : drop (length (drop (at + n) (take (at + len) d)) - tag_length) (drop (at + n) (take (at + len) d)) ≡ tag_in d at len
 
 parts-there : {suite : Suite} {form : Form} {k : Keys} {d : List ℕ} {at : ℕ} {mask : List ℕ} {first n : ℕ} {short : List ℕ} → Unmasked suite form k d at mask first n short
-    → (len : ℕ) → 1 ≤ at → leastLength ≤ len → at + len ≤ length d → There suite form k d at len mask first n short
-unfolding sampleOf
+    → (len : ℕ) → 1 ≤ at → least_length ≤ len → at + len ≤ length d → There suite form k d at len mask first n short
+unfolding sample_of
 parts-there {suite} {form} {k} {d} {at} {mask} {first} {n} {short} u len some enough all =
     let few = number-few u in
     record {
       mask-there = ap (suite.mask k.hp) (part-taken d (at + len) (at + 4) 16 all (omega arith)) ∙ sym u.its-mask;
-      first-there = ap (onFirst form mask) (get_or-take (at + len) d 0 0 (omega arith)) ∙ sym u.its-first;
-      short-there = ap (onNumber mask) (part-taken d (at + len) at n all (omega arith)) ∙ sym u.its-number;
+      first-there = ap (on_first form mask) (get_or-take (at + len) d 0 0 (omega arith)) ∙ sym u.its-first;
+      short-there = ap (on_number mask) (part-taken d (at + len) at n all (omega arith)) ∙ sym u.its-number;
       fields-there = part-taken d (at + len) 1 (at - 1) all (omega arith);
       cipher-there = cipher-part d at len n all (omega arith);
       tag-there = tag-part d at len n all (omega arith);
@@ -92,17 +92,17 @@ parts-there {suite} {form} {k} {d} {at} {mask} {first} {n} {short} u len some en
 
 -- ---- refusals in their order, then what was opened
 module _ {suite : Suite} {form : Form} {k : Keys} (e : ℕ) {d : List ℕ} {at : ℕ} {mask : List ℕ} {first n : ℕ} {short : List ℕ}
-    (u : Unmasked suite form k d at mask first n short) (len : ℕ) (some : 1 ≤ at) (enough : leastLength ≤ len) (all : at + len ≤ length d) where
+    (u : Unmasked suite form k d at mask first n short) (len : ℕ) (some : 1 ≤ at) (enough : least_length ≤ len) (all : at + len ≤ length d) where
   there : There suite form k d at len mask first n short
   there = parts-there u len some enough all
 
-  pub unprotect-reserved : (reservedBits form first ≡ 0 → ⊥) → unprotected suite form k e (take (at + len) d) at ≡ refused 9
+  pub unprotect-reserved : (reserved_bits form first ≡ 0 → ⊥) → unprotected suite form k e (take (at + len) d) at ≡ refused 9
   unfolding unprotected revealed
-  unprotect-reserved bits = rw (there.mask-there, there.first-there, ne_eqb (reservedBits form first) 0 bits)
+  unprotect-reserved bits = rw (there.mask-there, there.first-there, ne_eqb (reserved_bits form first) 0 bits)
 
-  module _ (zeros : reservedBits form first ≡ 0) where
-    reserved : eqb (reservedBits form first) 0 ≡ true
-    reserved = eq-eqb (reservedBits form first) 0 zeros
+  module _ (zeros : reserved_bits form first ≡ 0) where
+    reserved : eqb (reserved_bits form first) 0 ≡ true
+    reserved = eq-eqb (reserved_bits form first) 0 zeros
 
     pub unprotect-range : numbers ≤ decoded e (number short) n → unprotected suite form k e (take (at + len) d) at ≡ refused 10
     unfolding unprotected revealed
@@ -118,18 +118,18 @@ module _ {suite : Suite} {form : Form} {k : Keys} (e : ℕ) {d : List ℕ} {at :
 
     -- the number, and the tag of what was received under it
     module _ {m : ℕ} (full : m ≡ decoded e (number short) n) (small : m < numbers)
-        {tag : List ℕ} (tagged : tag ≡ suite.tag k.key (nonce k.iv m) (plainIn d at first short) (cipherIn d at len n)) where
+        {tag : List ℕ} (tagged : tag ≡ suite.tag k.key (nonce k.iv m) (plain_in d at first short) (cipher_in d at len n)) where
       abbrev found : Opened
       found = record {
-        packetNumber = m;
-        numberLength = n;
-        plain = plainIn d at first short;
-        payload = suite.stream k.key (nonce k.iv m) (cipherIn d at len n);
+        packet_number = m;
+        number_length = n;
+        plain = plain_in d at first short;
+        payload = suite.stream k.key (nonce k.iv m) (cipher_in d at len n);
         used = at + len;
       }
 
       -- the tag alone is left to be judged, all of it
-      pub unprotect-judged : unprotected suite form k e (take (at + len) d) at ≡ (unless 11 (same (tagIn d at len) tag) >> given found)
+      pub unprotect-judged : unprotected suite form k e (take (at + len) d) at ≡ (unless 11 (same (tag_in d at len) tag) >> given found)
       unfolding unprotected revealed decrypted
       unprotect-judged =
           rw (
@@ -148,5 +148,5 @@ module _ {suite : Suite} {form : Form} {k : Keys} (e : ℕ) {d : List ℕ} {at :
           )
           refl
 
-      pub unprotect-given : same (tagIn d at len) tag ≡ true → unprotected suite form k e (take (at + len) d) at ≡ given found
+      pub unprotect-given : same (tag_in d at len) tag ≡ true → unprotected suite form k e (take (at + len) d) at ≡ given found
       unprotect-given matches = unprotect-judged ∙ rw matches

@@ -4,5 +4,5 @@ use Rattle.gcm_counter.specs.Counter.{stream}
 use Rattle.gcm.specs.Gcm.{tag}
 use Rattle.protection.specs.Suite.{Suite}
 
-abbrev pub aesGcm : Suite
-aesGcm = record { stream = stream; tag = tag; mask = cipher }
+abbrev pub aes_gcm : Suite
+aes_gcm = record { stream = stream; tag = tag; mask = cipher }

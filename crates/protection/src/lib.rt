@@ -1,7 +1,7 @@
 // RFC 9001 sections 5.3 and 5.4: one sender's keys, and the parts of protection that sealing and opening share.
 ghost use Rattle.std.specs.Prelude.{◌≡◌, ◌+◌, ◌≤◌, length};
 ghost use Rattle.aes_byte_rounds.specs.Cipher.{cipher};
-ghost use Rattle.protection.specs.Protection.{nonce, sampleOf};
+ghost use Rattle.protection.specs.Protection.{nonce, sample_of};
 
 // One sender's keys, of one version and level.
 #[derive(Drop)]
@@ -27,7 +27,7 @@ pub fn nonce_of(iv: &[u8; 12], number: u64) -> [u8; 12]
 // Section 5.4.2: the sixteen bytes that start four bytes after the number's first byte.
 fn sample_at(packet: &[u8], place: usize) -> [u8; 16]
     requires { place + 20 ≤ length packet.now }
-    ensures { result ≡ sampleOf packet.now place }
+    ensures { result ≡ sample_of packet.now place }
 {
     let start = place + 4;
     let end = place + 20;
@@ -39,7 +39,7 @@ fn sample_at(packet: &[u8], place: usize) -> [u8; 16]
 // Section 5.4.3: the mask of a packet whose number stands at a place.
 pub fn mask_of(hp: &[u8; 16], packet: &[u8], place: usize) -> [u8; 16]
     requires { place + 20 ≤ length packet.now }
-    ensures { result ≡ cipher hp.now (sampleOf packet.now place) }
+    ensures { result ≡ cipher hp.now (sample_of packet.now place) }
 {
     let schedule = aes_schedule::expand_key(hp);
     let sample = sample_at(packet, place);

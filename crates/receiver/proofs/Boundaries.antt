@@ -4,14 +4,14 @@ use Rattle.octets.specs.Octets.{bytes, number, xor}
 use Rattle.octets.specs.Text.{ascii}
 use Rattle.hkdf.specs.Hkdf.{tls13, info}
 use Rattle.integers.specs.Integer.{integer}
-use Rattle.numbers_shortening.specs.Shortening.{coverable, ahead, gap, halvings, smallestLength, shortened}
+use Rattle.numbers_shortening.specs.Shortening.{coverable, ahead, gap, halvings, smallest_length, shortened}
 use Rattle.numbers_recovery.specs.Recovery.{decoded, recovered}
-use Rattle.header_forms.specs.Forms.{maskedFirst}
-use Rattle.protection.specs.Protection.{onFirst, onNumber, masked}
+use Rattle.header_forms.specs.Forms.{masked_first}
+use Rattle.protection.specs.Protection.{on_first, on_number, masked}
 use Rattle.receiver.specs.Boundaries.{Table}
 
 pub boundaries : Table
-unfolding bytes number xor ascii tls13 info maskedFirst onFirst onNumber masked integer coverable ahead gap halvings smallestLength shortened decoded recovered
+unfolding bytes number xor ascii tls13 info masked_first on_first on_number masked integer coverable ahead gap halvings smallest_length shortened decoded recovered
 boundaries = record {
   two_bytes = refl;
   two-where-one-would-do = refl;

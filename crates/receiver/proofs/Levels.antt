@@ -1,6 +1,6 @@
 -- Demand 3 at all levels at once: each packet is opened back by the keys of its level, and the number spaces count each for itself.
 use mathlib.Core.Path.{refl}
-use Rattle.receivers.specs.Openings.{expectedOnly, Lawful}
+use Rattle.receivers.specs.Openings.{expected_only, Lawful}
 use Rattle.receivers.proofs.Openings.{expected-counts, lawful-receives}
 use Rattle.receivers.proofs.Spaces.{spaces-apart}
 use Rattle.numbers.specs.Numbers.{numbers}
@@ -14,7 +14,7 @@ lawful suite laws = record {
       let out = good-opens suite laws (s.holding c.level) _ c.coming.sent c.coming.buffer x (right (sending.arrival c)) owes good in
       record { opens = out.0; passes = refl; in-range = out.1 };
   refuses-rubbish = λ ring c. refuses-rubbish (ring c.level) c.coming.sent;
-  counts = (spaces-apart (λ (a : LeveledArrival). space_of a.level) expectedOnly).counted expected-counts;
+  counts = (spaces-apart (λ (a : LeveledArrival). space_of a.level) expected_only).counted expected-counts;
 }
 
 pub all-levels : AllLevels

@@ -5,11 +5,11 @@ use Rattle.octets.specs.Octets.{bytes, number, xor}
 use Rattle.numbers_shortening.specs.Shortening.{nothing}
 use Rattle.versions.specs.Levels.{initial}
 use Rattle.header_writing.specs.Written.{holding, Plain}
-use Rattle.header_forms.specs.Rules.{inForce}
+use Rattle.header_forms.specs.Rules.{in_force}
 use Rattle.protection.specs.Suite.{Suite}
 use Rattle.protection.specs.Protection.{Keys}
-use Rattle.packets.specs.Packet.{packetOf}
-use Rattle.receiver.specs.Receiver.{Yield, yields, expectedAfter, Parcel, rubbish, parcel, Coming, arrivals}
+use Rattle.packets.specs.Packet.{packet_of}
+use Rattle.receiver.specs.Receiver.{Yield, yields, expected_after, Parcel, rubbish, parcel, Coming, arrivals}
 
 -- the nonce for a stream, a sum for a tag, the sample for a mask: nothing secret, and every law holds
 unfoldable pub toy : Suite
@@ -36,30 +36,30 @@ plain_of m = record {
   source = [];
   token = holding [];
   payload = m ∷ m ∷ m ∷ m ∷ [];
-  packetNumber = m;
-  numberLength = 1;
+  packet_number = m;
+  number_length = 1;
 }
 
-unfoldable pub sealedOf : (m : ℕ) → List ℕ
-sealedOf m = packetOf toy inForce keys (plain_of m)
+unfoldable pub sealed_of : (m : ℕ) → List ℕ
+sealed_of m = packet_of toy in_force keys (plain_of m)
 
 -- every buffer has twenty bytes
 abbrev pub lent : List ℕ
 lent = replicate 20 0xaa
 
 -- packet m comes, and two bytes behind it
-unfoldable pub parcelOf : (m : ℕ) → Parcel
-parcelOf m = record { plain = plain_of m; acknowledged = nothing; room = 33; packet = sealedOf m; behind = 0xff ∷ 0xff ∷ [] }
+unfoldable pub parcel_of : (m : ℕ) → Parcel
+parcel_of m = record { plain = plain_of m; acknowledged = nothing; room = 33; packet = sealed_of m; behind = 0xff ∷ 0xff ∷ [] }
 
 unfoldable pub comes : (m : ℕ) → Coming
-comes m = record { sent = parcel (parcelOf m); buffer = lent }
+comes m = record { sent = parcel (parcel_of m); buffer = lent }
 
 -- nothing at all, which is refusal 1; and packet 4 without its last byte and with another there, which is refusal 11
 unfoldable pub empty : Coming
 empty = record { sent = rubbish [] 1; buffer = lent }
 
 unfoldable pub damaged : Coming
-damaged = record { sent = rubbish (take 32 (sealedOf 4) ++ (0 ∷ [])) 11; buffer = lent }
+damaged = record { sent = rubbish (take 32 (sealed_of 4) ++ (0 ∷ [])) 11; buffer = lent }
 
 -- 0, 2, 2 again, 4 and then 3; 1 is lost
 unfoldable pub coming : List Coming
@@ -71,7 +71,7 @@ opens m expected =
     let header : List ℕ = 0xc0 ∷ 0 ∷ 0 ∷ 0 ∷ 1 ∷ 2 ∷ 0x83 ∷ 0x94 ∷ 0 ∷ 0 ∷ 0x40 ∷ 21 ∷ m ∷ [] in
     let payload : List ℕ = m ∷ m ∷ m ∷ m ∷ [] in
     record {
-      outcome = given (record { packetNumber = m; numberLength = 1; plain = header; payload = payload; used = 33 });
+      outcome = given (record { packet_number = m; number_length = 1; plain = header; payload = payload; used = 33 });
       buffer = header ++ payload ++ (0xaa ∷ 0xaa ∷ 0xaa ∷ []);
       expected = expected;
     }
@@ -81,4 +81,4 @@ refuses n expected = record { outcome = refused n; buffer = lent; expected = exp
 
 pub record Example : Type 0 where
   pub each : yields toy keys 0 (arrivals coming) ≡ opens 0 1 ∷ refuses 1 1 ∷ opens 2 3 ∷ opens 2 3 ∷ refuses 11 3 ∷ opens 4 5 ∷ opens 3 5 ∷ []
-  pub last : expectedAfter toy keys 0 (arrivals coming) ≡ 5
+  pub last : expected_after toy keys 0 (arrivals coming) ≡ 5

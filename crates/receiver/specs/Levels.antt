@@ -4,18 +4,18 @@ use Rattle.std.specs.Prelude.{ℕ, cond, eqb, length}
 use Rattle.receivers.specs.Receivers as Receivers
 use Rattle.receivers.specs.Receivers.{Receiver, Promise, Terms}
 use Rattle.receivers.specs.Openings as Openings
-use Rattle.receivers.specs.Openings.{Numbering, expectedOnly, Effects, Opening, Standing, Sending}
+use Rattle.receivers.specs.Openings.{Numbering, expected_only, Effects, Opening, Standing, Sending}
 use Rattle.receivers.specs.Spaces as Spaces
-use Rattle.receivers.specs.Spaces.{Space, Each, at, inEachSpace}
+use Rattle.receivers.specs.Spaces.{Space, Each, at, in_each_space}
 use Rattle.numbers.specs.Numbers.{numbers}
 use Rattle.versions.specs.Levels.{initial, handshake}
-use Rattle.header_forms.specs.Rules.{inForce}
+use Rattle.header_forms.specs.Rules.{in_force}
 use Rattle.protection.specs.Suite.{Suite, Laws}
 use Rattle.protection.specs.Protection.{Keys}
 use Rattle.protection.specs.Clear.{Opened}
 use Rattle.packets.specs.Packet.{opened}
 use Rattle.packets.specs.Effects.{written}
-use Rattle.receiver.specs.Receiver.{Yield, Coming, Arrival, isRubbish, FairOne, answerOwed}
+use Rattle.receiver.specs.Receiver.{Yield, Coming, Arrival, is_rubbish, FairOne, answer_owed}
 use Rattle.receiver.specs.Receiver as One
 
 -- ---- the receiver
@@ -33,11 +33,11 @@ abbrev pub space_of : (level : ℕ) → Space
 space_of level = cond (eqb level initial) Spaces.initial (cond (eqb level handshake) Spaces.handshake Spaces.application)
 
 abbrev pub numbering : Numbering (Each ℕ) LeveledArrival
-numbering = inEachSpace (λ a. space_of a.level) expectedOnly
+numbering = in_each_space (λ a. space_of a.level) expected_only
 
 abbrev pub effects : Effects Ring LeveledArrival Opened
 effects = record {
-  number_of = λ x. x.packetNumber;
+  number_of = λ x. x.packet_number;
   moved = λ ring a x. ring;
   lent = λ a. a.arrival.buffer;
   written = written;
@@ -46,7 +46,7 @@ effects = record {
 module _ (suite : Suite) where
   abbrev pub opening : Opening Ring LeveledArrival Opened
   opening = record {
-    opened = λ ring e a. opened suite inForce (ring a.level) e a.arrival.datagram (length a.arrival.buffer);
+    opened = λ ring e a. opened suite in_force (ring a.level) e a.arrival.datagram (length a.arrival.buffer);
     effects = effects;
   }
 
@@ -61,8 +61,8 @@ pub record LeveledComing : Type 0 where
 abbrev pub sending : Sending Ring LeveledArrival Opened LeveledComing
 sending = record {
   arrival = λ c. record { level = c.level; arrival = One.arrival c.coming };
-  isRubbish = λ c. isRubbish c.coming.sent;
-  owes = λ ring c. answerOwed (ring c.level) c.coming.sent;
+  is_rubbish = λ c. is_rubbish c.coming.sent;
+  owes = λ ring c. answer_owed (ring c.level) c.coming.sent;
 }
 
 abbrev pub promise : Promise (Standing Ring (Each ℕ)) LeveledArrival Yield LeveledComing

@@ -3,20 +3,20 @@ use Rattle.std.specs.Prelude.{ℕ, ◌+◌, ◌≤◌, max, ◌≡◌, List, ◌
 use Rattle.octets.specs.Outcome.{Outcome, refused, given}
 use Rattle.octets.specs.Octets.{placed}
 use Rattle.receivers.specs.Receivers as Receivers
-use Rattle.receivers.specs.Receivers.{Receiver, answers, final, Promise, allOwed, ofPackets, furthest}
+use Rattle.receivers.specs.Receivers.{Receiver, answers, final, Promise, all_owed, of_packets, furthest}
 use Rattle.receivers.specs.Openings as Openings
-use Rattle.receivers.specs.Openings.{expectedOnly, Effects, Opening, Standing, Sending}
+use Rattle.receivers.specs.Openings.{expected_only, Effects, Opening, Standing, Sending}
 use Rattle.numbers_shortening.specs.Shortening.{Acknowledged}
 use Rattle.numbers.specs.Numbers.{numbers}
 use Rattle.numbers_recovery.specs.Recovery.{Near}
-use Rattle.header_forms.specs.Rules.{inForce}
-use Rattle.header_fields.specs.Fields.{tagLength}
+use Rattle.header_forms.specs.Rules.{in_force}
+use Rattle.header_fields.specs.Fields.{tag_length}
 use Rattle.header_writing.specs.Written.{Plain}
 use Rattle.protection.specs.Suite.{Suite, Laws}
 use Rattle.protection.specs.Protection.{Keys}
 use Rattle.protection.specs.Clear.{Opened}
 use Rattle.packets.specs.Packet.{sealed, opened}
-use Rattle.packets.specs.Effects.{written, output, after, whatWasSealed}
+use Rattle.packets.specs.Effects.{written, output, after, what_was_sealed}
 
 -- ---- the receiver
 -- a datagram as it comes, and the buffer lent for it
@@ -31,7 +31,7 @@ Yield = Openings.Yield Opened
 -- an opened packet leaves the keys as they are, and its plain header and payload in the lent buffer
 abbrev pub effects : Effects Keys Arrival Opened
 effects = record {
-  number_of = λ x. x.packetNumber;
+  number_of = λ x. x.packet_number;
   moved = λ keys a x. keys;
   lent = λ a. a.buffer;
   written = written;
@@ -43,11 +43,11 @@ standing keys e = record { holding = keys; kept = e }
 
 module _ (suite : Suite) where
   abbrev pub opening : Opening Keys Arrival Opened
-  opening = record { opened = λ keys e a. opened suite inForce keys e a.datagram (length a.buffer); effects = effects }
+  opening = record { opened = λ keys e a. opened suite in_force keys e a.datagram (length a.buffer); effects = effects }
 
   -- of the numbers it keeps the expected one alone
   abbrev pub receiver : Receiver (Standing Keys ℕ) Arrival Yield
-  receiver = Openings.receiver opening expectedOnly
+  receiver = Openings.receiver opening expected_only
 
 module _ (suite : Suite) (keys : Keys) where
   -- one arrival, where e is expected
@@ -59,8 +59,8 @@ module _ (suite : Suite) (keys : Keys) where
   yields e coming = answers (receiver suite) (standing keys e) coming
 
   -- the number expected when all have come
-  abbrev pub expectedAfter : (e : ℕ) → List Arrival → ℕ
-  expectedAfter e coming = (final (receiver suite) (standing keys e) coming).kept
+  abbrev pub expected_after : (e : ℕ) → List Arrival → ℕ
+  expected_after e coming = (final (receiver suite) (standing keys e) coming).kept
 
 -- ---- what may come
 -- a packet that a sender made for a plain one, and what stands behind it in its datagram
@@ -81,24 +81,24 @@ pub record Coming : Type 0 where
   pub sent : Sent
   pub buffer : List ℕ
 
-abbrev pub datagramOf : Sent → List ℕ
-datagramOf (rubbish d n) = d
-datagramOf (parcel p) = p.packet ++ p.behind
+abbrev pub datagram_of : Sent → List ℕ
+datagram_of (rubbish d n) = d
+datagram_of (parcel p) = p.packet ++ p.behind
 
 abbrev pub arrival : Coming → Arrival
-arrival c = record { datagram = datagramOf c.sent; buffer = c.buffer }
+arrival c = record { datagram = datagram_of c.sent; buffer = c.buffer }
 
-abbrev pub isRubbish : Sent → Bool
-isRubbish (rubbish d n) = true
-isRubbish (parcel p) = false
+abbrev pub is_rubbish : Sent → Bool
+is_rubbish (rubbish d n) = true
+is_rubbish (parcel p) = false
 
 module _ (suite : Suite) (keys : Keys) where
   -- the rules seal it, its datagram is no larger than any may be, the buffer has room for the answer, and the number is near the expected one
   pub record Good (e : ℕ) (p : Parcel) (buffer : List ℕ) : Type 0 where
-    pub made : sealed suite inForce keys p.acknowledged p.plain p.room ≡ given p.packet
-    pub fits : length (p.packet ++ p.behind) ≤ inForce.limit
-    pub enough : length p.packet ≤ length buffer + tagLength
-    pub near : Near e p.plain.packetNumber p.plain.numberLength
+    pub made : sealed suite in_force keys p.acknowledged p.plain p.room ≡ given p.packet
+    pub fits : length (p.packet ++ p.behind) ≤ in_force.limit
+    pub enough : length p.packet ≤ length buffer + tag_length
+    pub near : Near e p.plain.packet_number p.plain.number_length
 
   -- refused when it comes, or good when it comes
   abbrev pub FairOne : (e : ℕ) → Sent → (buffer : List ℕ) → Type 0
@@ -107,22 +107,22 @@ module _ (suite : Suite) (keys : Keys) where
 
 -- ---- what the receiver owes
 -- for rubbish its refusal, for a packet all that was sealed
-abbrev pub answerOwed : Keys → Sent → Outcome Opened
-answerOwed keys (rubbish d n) = refused n
-answerOwed keys (parcel p) = given (whatWasSealed inForce keys p.plain p.packet)
+abbrev pub answer_owed : Keys → Sent → Outcome Opened
+answer_owed keys (rubbish d n) = refused n
+answer_owed keys (parcel p) = given (what_was_sealed in_force keys p.plain p.packet)
 
 -- how each comes, and what is owed for it by a receiver that holds the keys
 abbrev pub sending : Sending Keys Arrival Opened Coming
-sending = record { arrival = arrival; isRubbish = λ c. isRubbish c.sent; owes = λ keys c. answerOwed keys c.sent }
+sending = record { arrival = arrival; is_rubbish = λ c. is_rubbish c.sent; owes = λ keys c. answer_owed keys c.sent }
 
 -- that answer, the buffer and the expected number as it leaves them
 abbrev pub promise : Promise (Standing Keys ℕ) Arrival Yield Coming
-promise = Openings.promise effects expectedOnly sending
+promise = Openings.promise effects expected_only sending
 
 -- the number to expect behind it: one above the greatest number so far
-abbrev pub expectedBehind : (e : ℕ) → Sent → ℕ
-expectedBehind e (rubbish d n) = e
-expectedBehind e (parcel p) = max e (p.plain.packetNumber + 1)
+abbrev pub expected_behind : (e : ℕ) → Sent → ℕ
+expected_behind e (rubbish d n) = e
+expected_behind e (parcel p) = max e (p.plain.packet_number + 1)
 
 -- ---- one step, in the words of the contract of `open`
 -- what an outcome leaves of the lent buffer and of the expected number
@@ -131,8 +131,8 @@ yielded e buffer o = record { outcome = o; buffer = placed (output o) buffer; ex
 
 pub record OneStep (suite : Suite) (keys : Keys) (e : ℕ) : Type 0 where
   pub yields-one : (a : Arrival) → yield suite keys e a ≡ yielded e a.buffer ((opening suite).opened keys e a)
-  pub owes-one : (c : Coming) → promise.owed (standing keys e) c ≡ yielded e c.buffer (answerOwed keys c.sent)
-  pub expects-behind : (c : Coming) → promise.behind (standing keys e) c ≡ standing keys (expectedBehind e c.sent)
+  pub owes-one : (c : Coming) → promise.owed (standing keys e) c ≡ yielded e c.buffer (answer_owed keys c.sent)
+  pub expects-behind : (c : Coming) → promise.behind (standing keys e) c ≡ standing keys (expected_behind e c.sent)
 
 -- ---- lists
 abbrev pub arrivals : List Coming → List Arrival
@@ -143,18 +143,18 @@ abbrev pub Fair : Suite → Keys → (e : ℕ) → List Coming → Type 0
 Fair suite keys e cs = Receivers.Fair promise (λ s c. FairOne suite s.holding s.kept c.sent c.buffer) (standing keys e) cs
 
 abbrev pub owed : Keys → (e : ℕ) → List Coming → List Yield
-owed keys e cs = allOwed promise (standing keys e) cs
+owed keys e cs = all_owed promise (standing keys e) cs
 
 -- without the rubbish: the packets, and their yields among all
 abbrev pub packets : List Coming → List Coming
 packets cs = Receivers.packets promise cs
 
-abbrev pub yieldsOfPackets : List Coming → List Yield → List Yield
-yieldsOfPackets cs ys = ofPackets promise cs ys
+abbrev pub yields_of_packets : List Coming → List Yield → List Yield
+yields_of_packets cs ys = of_packets promise cs ys
 
 -- one above the greatest number among the packets, and 0 where there is none
 abbrev pub ahead : List Coming → ℕ
-ahead cs = furthest (λ c. expectedBehind 0 c.sent) cs
+ahead cs = furthest (λ c. expected_behind 0 c.sent) cs
 
 -- ---- the theorem
 module _ (suite : Suite) (keys : Keys) where
@@ -163,9 +163,9 @@ module _ (suite : Suite) (keys : Keys) where
     -- each rubbish refused, its buffer and the expected number as before
     pub each : yields suite keys e (arrivals cs) ≡ owed keys e cs
     -- the rubbish disturbs no packet
-    pub undisturbed : yieldsOfPackets cs (yields suite keys e (arrivals cs)) ≡ yields suite keys e (arrivals (packets cs))
+    pub undisturbed : yields_of_packets cs (yields suite keys e (arrivals cs)) ≡ yields suite keys e (arrivals (packets cs))
     -- the larger of what was expected at first and one above the greatest number opened
-    pub last : expectedAfter suite keys e (arrivals cs) ≡ max e (ahead cs)
+    pub last : expected_after suite keys e (arrivals cs) ≡ max e (ahead cs)
 
 -- for every key record, every number that may be expected and every fair list
 abbrev pub Demand3At : Suite → Type 0

@@ -4,15 +4,15 @@ use mathlib.Core.Path.{◌≡◌, refl, sym, ap, ap₂, ◌∙◌}
 use mathlib.Core.List.{List, [], ◌∷◌}
 use mathlib.Core.Bool.{Bool, true, false, cond}
 use native.Mathlib.Omega.{arith}
-use Rattle.receivers.specs.Receivers.{Receiver, answers, final, Promise, Terms, arrivals, Fair, behindAll, packets, ofPackets, furthest, Received, Keeps, Demand3}
+use Rattle.receivers.specs.Receivers.{Receiver, answers, final, Promise, Terms, arrivals, Fair, behind_all, packets, of_packets, furthest, Received, Keeps, Demand3}
 
 module _ {State Arrival Answer Sent : Type 0} (r : Receiver State Arrival Answer) (p : Promise State Arrival Answer Sent)
     (t : Terms State Sent) (k : Keeps r p t) where
   -- without the rubbish, from one thing on: as it was behind it
-  packets-on : (s : State) (c : Sent) (cs : List Sent) (ys : List Answer) (b : Bool) → p.isRubbish c ≡ b
+  packets-on : (s : State) (c : Sent) (cs : List Sent) (ys : List Answer) (b : Bool) → p.is_rubbish c ≡ b
       → r.next s (p.arrival c) ≡ p.behind s c
-      → ofPackets p cs ys ≡ answers r (p.behind s c) (arrivals p (packets p cs))
-      → cond b (ofPackets p cs ys) (r.answer s (p.arrival c) ∷ ofPackets p cs ys) ≡ answers r s (arrivals p (cond b (packets p cs) (c ∷ packets p cs)))
+      → of_packets p cs ys ≡ answers r (p.behind s c) (arrivals p (packets p cs))
+      → cond b (of_packets p cs ys) (r.answer s (p.arrival c) ∷ of_packets p cs ys) ≡ answers r s (arrivals p (cond b (packets p cs) (c ∷ packets p cs)))
   packets-on s c cs ys true is moved on = on ∙ ap (λ (z : State). answers r z (arrivals p (packets p cs))) (k.rubbish-moves-nothing s c is)
   packets-on s c cs ys false is moved on =
       ap (λ (more : List Answer). r.answer s (p.arrival c) ∷ more) (on ∙ sym (ap (λ (z : State). answers r z (arrivals p (packets p cs))) moved))
@@ -24,7 +24,7 @@ module _ {State Arrival Answer Sent : Type 0} (r : Receiver State Arrival Answer
       let later = ap (λ (z : State). answers r z (arrivals p cs)) moved in
       record {
         each = ap₂ (λ (y : Answer) (ys : List Answer). y ∷ ys) (k.answers-as-owed s c right fair) (later ∙ ih.each);
-        undisturbed = packets-on s c cs _ (p.isRubbish c) refl moved (ap (ofPackets p cs) later ∙ ih.undisturbed);
+        undisturbed = packets-on s c cs _ (p.is_rubbish c) refl moved (ap (of_packets p cs) later ∙ ih.undisturbed);
         last = ap (λ (z : State). final r z (arrivals p cs)) moved ∙ ih.last;
       }
 
@@ -43,7 +43,7 @@ module _ {State Arrival Answer Sent : Type 0} (p : Promise State Arrival Answer 
 -- a number that each thing moves to the larger of what it was and the thing's reach is in the end the larger of what it was and the furthest reach
 module _ {State Arrival Answer Sent : Type 0} (p : Promise State Arrival Answer Sent) (measure : State → ℕ) (reach : Sent → ℕ)
     (moves : (s : State) (c : Sent) → measure (p.behind s c) ≡ max (measure s) (reach c)) where
-  pub reached : (s : State) (cs : List Sent) → measure (behindAll p s cs) ≡ max (measure s) (furthest reach cs)
+  pub reached : (s : State) (cs : List Sent) → measure (behind_all p s cs) ≡ max (measure s) (furthest reach cs)
   reached s [] = omega arith
   reached s (c ∷ cs) = reached (p.behind s c) cs ∙ omega (arith, moves s c)
 

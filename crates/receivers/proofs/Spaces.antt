@@ -3,10 +3,10 @@ use Prim.Native.Nat.{◌+◌, ◌≤◌, max}
 use mathlib.Core.Path.{◌≡◌, refl, sym, ap, subst, ◌∙◌}
 use native.Mathlib.Omega.{arith}
 use Rattle.receivers.specs.Openings.{Numbering, Counts}
-use Rattle.receivers.specs.Spaces.{Space, initial, handshake, application, Each, inAll, at, put, inEachSpace, SpacesApart}
+use Rattle.receivers.specs.Spaces.{Space, initial, handshake, application, Each, in_all, at, put, in_each_space, SpacesApart}
 
 module _ {A : Type 0} where
-  at_all : (sp : Space) (x : A) → at sp (inAll x) ≡ x
+  at_all : (sp : Space) (x : A) → at sp (in_all x) ≡ x
   at_all initial x = refl
   at_all handshake x = refl
   at_all application x = refl
@@ -36,15 +36,15 @@ module _ {A : Type 0} where
       (λ same. subst (λ (z : Space). R (at z ks) (move (at sp ks))) (sym same) (moved (at sp ks))) (stayed (at any ks))
 
 module _ {Kept Arrival : Type 0} (space_of : Arrival → Space) (n : Numbering Kept Arrival) where
-  each_counts : Counts n → Counts (inEachSpace space_of n)
+  each_counts : Counts n → Counts (in_each_space space_of n)
   each_counts c = record {
-    starts = λ a. ap (λ (k : Kept). n.expectedBy k a) (at_all (space_of a) n.start) ∙ c.starts a;
-    grows = λ ks a m. ap (λ (k : Kept). n.expectedBy k a) (at-put (space_of a) (n.after (at (space_of a) ks) a m) ks) ∙ c.grows (at (space_of a) ks) a m;
+    starts = λ a. ap (λ (k : Kept). n.expected_by k a) (at_all (space_of a) n.start) ∙ c.starts a;
+    grows = λ ks a m. ap (λ (k : Kept). n.expected_by k a) (at-put (space_of a) (n.after (at (space_of a) ks) a m) ks) ∙ c.grows (at (space_of a) ks) a m;
     never_back = λ ks a b m.
-        moved-or-stayed (λ x y. n.expectedBy x a ≤ n.expectedBy y a) (λ x. n.after x b m)
+        moved-or-stayed (λ x y. n.expected_by x a ≤ n.expected_by y a) (λ x. n.after x b m)
         (λ x. c.never_back x a b m) (λ x. omega arith) (space_of b) (space_of a) ks;
     never-beyond = λ ks a b m.
-        moved-or-stayed (λ x y. n.expectedBy y a ≤ max (n.expectedBy x a) (m + 1)) (λ x. n.after x b m)
+        moved-or-stayed (λ x y. n.expected_by y a ≤ max (n.expected_by x a) (m + 1)) (λ x. n.after x b m)
         (λ x. c.never-beyond x a b m) (λ x. omega arith) (space_of b) (space_of a) ks;
   }
 

@@ -22,7 +22,7 @@ module _ {State Arrival Answer : Type 0} (r : Receiver State Arrival Answer) whe
 -- for each thing that may be sent: how it arrives, whether it is rubbish, the answer owed for it, and where the receiver is to stand behind it
 pub record Promise (State Arrival Answer Sent : Type 0) : Type 0 where
   pub arrival : Sent → Arrival
-  pub isRubbish : Sent → Bool
+  pub is_rubbish : Sent → Bool
   pub owed : State → Sent → Answer
   pub behind : State → Sent → State
 
@@ -41,23 +41,23 @@ module _ {State Arrival Answer Sent : Type 0} (p : Promise State Arrival Answer 
   Fair FairOne s [] = Unit {0}
   Fair FairOne s (c ∷ cs) = FairOne s c × Fair FairOne (p.behind s c) cs
 
-  abbrev pub allOwed : State → List Sent → List Answer
-  allOwed s [] = []
-  allOwed s (c ∷ cs) = p.owed s c ∷ allOwed (p.behind s c) cs
+  abbrev pub all_owed : State → List Sent → List Answer
+  all_owed s [] = []
+  all_owed s (c ∷ cs) = p.owed s c ∷ all_owed (p.behind s c) cs
 
-  abbrev pub behindAll : State → List Sent → State
-  behindAll s [] = s
-  behindAll s (c ∷ cs) = behindAll (p.behind s c) cs
+  abbrev pub behind_all : State → List Sent → State
+  behind_all s [] = s
+  behind_all s (c ∷ cs) = behind_all (p.behind s c) cs
 
   -- without the rubbish: the packets, and their answers among all
   abbrev pub packets : List Sent → List Sent
   packets [] = []
-  packets (c ∷ cs) = cond (p.isRubbish c) (packets cs) (c ∷ packets cs)
+  packets (c ∷ cs) = cond (p.is_rubbish c) (packets cs) (c ∷ packets cs)
 
-  abbrev pub ofPackets : List Sent → List Answer → List Answer
-  ofPackets [] ys = []
-  ofPackets (c ∷ cs) [] = []
-  ofPackets (c ∷ cs) (y ∷ ys) = cond (p.isRubbish c) (ofPackets cs ys) (y ∷ ofPackets cs ys)
+  abbrev pub of_packets : List Sent → List Answer → List Answer
+  of_packets [] ys = []
+  of_packets (c ∷ cs) [] = []
+  of_packets (c ∷ cs) (y ∷ ys) = cond (p.is_rubbish c) (of_packets cs ys) (y ∷ of_packets cs ys)
 
 -- the furthest that any of them reaches, and 0 where there is none
 abbrev pub furthest : {Sent : Type 0} → (reach : Sent → ℕ) → List Sent → ℕ
@@ -68,11 +68,11 @@ furthest reach (c ∷ cs) = max (reach c) (furthest reach cs)
 module _ {State Arrival Answer Sent : Type 0} (r : Receiver State Arrival Answer) (p : Promise State Arrival Answer Sent) where
   pub record Received (s : State) (cs : List Sent) : Type 0 where
     -- each answer is the one owed
-    pub each : answers r s (arrivals p cs) ≡ allOwed p s cs
+    pub each : answers r s (arrivals p cs) ≡ all_owed p s cs
     -- the rubbish disturbs no packet
-    pub undisturbed : ofPackets p cs (answers r s (arrivals p cs)) ≡ answers r s (arrivals p (packets p cs))
+    pub undisturbed : of_packets p cs (answers r s (arrivals p cs)) ≡ answers r s (arrivals p (packets p cs))
     -- the receiver stands where it is to stand
-    pub last : final r s (arrivals p cs) ≡ behindAll p s cs
+    pub last : final r s (arrivals p cs) ≡ behind_all p s cs
 
   module _ (t : Terms State Sent) where
     -- what is to be shown of a receiver, all of it about one arrival
@@ -80,7 +80,7 @@ module _ {State Arrival Answer Sent : Type 0} (r : Receiver State Arrival Answer
       pub answers-as-owed : (s : State) (c : Sent) → t.Right s → t.FairOne s c → r.answer s (p.arrival c) ≡ p.owed s c
       pub moves-as-owed : (s : State) (c : Sent) → t.Right s → t.FairOne s c → r.next s (p.arrival c) ≡ p.behind s c
       pub stays-right : (s : State) (c : Sent) → t.Right s → t.FairOne s c → t.Right (p.behind s c)
-      pub rubbish-moves-nothing : (s : State) (c : Sent) → p.isRubbish c ≡ true → p.behind s c ≡ s
+      pub rubbish-moves-nothing : (s : State) (c : Sent) → p.is_rubbish c ≡ true → p.behind s c ≡ s
 
     -- what holds then, of every fair list
     abbrev pub Demand3 : Type 0

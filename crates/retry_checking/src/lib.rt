@@ -1,9 +1,9 @@
 // Retry packets, checked: RFC 9000 section 17.2.5 and RFC 9001 section 5.8.
 ghost use Rattle.std.specs.Prelude.{◌≡◌, ◌≤◌, length};
-ghost use Rattle.header_forms.specs.Rules.{inForce};
-ghost use Rattle.header_fields.specs.Answers.{foundAnswer};
-ghost use Rattle.header_long.specs.Answers.{longAnswer};
-ghost use Rattle.retry_checking.specs.Retry.{tokenAt, retryHeader};
+ghost use Rattle.header_forms.specs.Rules.{in_force};
+ghost use Rattle.header_fields.specs.Answers.{found_answer};
+ghost use Rattle.header_long.specs.Answers.{long_answer};
+ghost use Rattle.retry_checking.specs.Retry.{token_at, retry_header};
 ghost use Rattle.retry_checking.specs.Answers.{CheckRetry};
 
 use header_fields::{Found, LONGEST_ID, Place, TAG_LENGTH};
@@ -30,7 +30,7 @@ pub enum Checking {
 
 // RFC 9000 section 17.2: what a Retry begins with, as every long header does.
 fn read_retry(datagram: &[u8]) -> LongReading
-    ensures { longAnswer result ≡ retryHeader inForce datagram.now }
+    ensures { long_answer result ≡ retry_header in_force datagram.now }
 {
     match judge_form(datagram, Form::Long) {
         Formed::Refused(why) => return LongReading::Refused(why),
@@ -46,7 +46,7 @@ fn read_retry(datagram: &[u8]) -> LongReading
 // The token: all between a place and the tag that ends the datagram.
 fn token_at(datagram: &[u8], at: usize) -> Found
     requires { at ≤ length datagram.now }
-    ensures { foundAnswer result ≡ tokenAt datagram.now at }
+    ensures { found_answer result ≡ token_at datagram.now at }
 {
     let behind = datagram.len() - at;
     if behind < TAG_LENGTH {

@@ -6,16 +6,16 @@ use lib.ListN.{length}
 use Rattle.octets.specs.Outcome.{refused, given}
 use Rattle.octets.specs.Octets.{Begins}
 use Rattle.octets.proofs.Buffers.{refused-placed, given-placed}
-use Rattle.header_forms.specs.Rules.{inForce}
-use Rattle.retry_writing.specs.Written.{retryWritten}
+use Rattle.header_forms.specs.Rules.{in_force}
+use Rattle.retry_writing.specs.Written.{retry_written}
 use Rattle.retry_writing.specs.Answers.{WriteRetry}
 use Rattle.retry_writing.specs.declared.Writing.TheVariants as Writing
 
 module _ {v : ℕ} {original destination source token : List ℕ} {low : ℕ} {out : List ℕ} where
-  pub write-refused : {n : ℕ} → retryWritten inForce v original destination source token low (length out) ≡ refused n
+  pub write-refused : {n : ℕ} → retry_written in_force v original destination source token low (length out) ≡ refused n
       → WriteRetry v original destination source token low out (Writing.Refused n) out
   write-refused is = let stays = refused-placed out is in record { answer = stays.0; output = stays.1 }
 
-  pub write-made : {packet after : List ℕ} {n : ℕ} → retryWritten inForce v original destination source token low (length out) ≡ given packet
+  pub write-made : {packet after : List ℕ} {n : ℕ} → retry_written in_force v original destination source token low (length out) ≡ given packet
       → Begins packet out after n → WriteRetry v original destination source token low out (Writing.Written n) after
   write-made is begins = let stands = given-placed is begins in record { answer = stands.0; output = stands.1 }

@@ -1,29 +1,29 @@
 -- The code's answers as what they stand for, and what writing promises.
 use Rattle.std.specs.Prelude.{ℕ, ◌+◌, ◌≤◌, ◌≡◌, List, length}
 use Rattle.octets.specs.Outcome.{Outcome, refused, given}
-use Rattle.octets.specs.Octets.{placed, lengthGiven}
-use Rattle.header_forms.specs.Rules.{inForce}
-use Rattle.header_fields.specs.Fields.{longestId, tagLength}
-use Rattle.retry_writing.specs.Written.{retryWritten}
+use Rattle.octets.specs.Octets.{placed, length_given}
+use Rattle.header_forms.specs.Rules.{in_force}
+use Rattle.header_fields.specs.Fields.{longest_id, tag_length}
+use Rattle.retry_writing.specs.Written.{retry_written}
 use Rattle.retry_writing.specs.declared.Writing.{Writing}
 use Rattle.retry_writing.specs.declared.Writing.TheVariants as Writing
 
-abbrev pub writingAnswer : Writing → Outcome ℕ
-writingAnswer (Writing.Refused n) = refused n
-writingAnswer (Writing.Written n) = given n
+abbrev pub writing_answer : Writing → Outcome ℕ
+writing_answer (Writing.Refused n) = refused n
+writing_answer (Writing.Written n) = given n
 
 pub record WriteRetry (v : ℕ) (original destination source token : List ℕ) (low : ℕ) (before : List ℕ) (r : Writing) (after : List ℕ) : Type 0 where
-  pub answer : writingAnswer r ≡ lengthGiven (retryWritten inForce v original destination source token low (length before))
-  pub output : after ≡ placed (retryWritten inForce v original destination source token low (length before)) before
+  pub answer : writing_answer r ≡ length_given (retry_written in_force v original destination source token low (length before))
+  pub output : after ≡ placed (retry_written in_force v original destination source token low (length before)) before
 
 -- how long a Retry of these parts is
 abbrev pub size_of : (destination source token : List ℕ) → ℕ
-size_of destination source token = 7 + length destination + length source + length token + tagLength
+size_of destination source token = 7 + length destination + length source + length token + tag_length
 
 -- parts that are written, and a buffer with room for the packet
 pub record Writable (original destination source token buffer : List ℕ) : Type 0 where
-  pub short-original : length original ≤ longestId
-  pub short-destination : length destination ≤ longestId
-  pub short-source : length source ≤ longestId
-  pub size : size_of destination source token ≤ inForce.limit
+  pub short-original : length original ≤ longest_id
+  pub short-destination : length destination ≤ longest_id
+  pub short-source : length source ≤ longest_id
+  pub size : size_of destination source token ≤ in_force.limit
   pub room : size_of destination source token ≤ length buffer

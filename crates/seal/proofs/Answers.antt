@@ -4,55 +4,55 @@ use mathlib.Core.Path.{◌≡◌, refl, sym, ap, ◌∙◌}
 use mathlib.Core.List.{List}
 use lib.ListN.{length}
 use Rattle.octets.specs.Outcome.{Outcome, refused, given}
-use Rattle.octets.specs.Octets.{begun, placed, lengthGiven}
+use Rattle.octets.specs.Octets.{begun, placed, length_given}
 use Rattle.octets.proofs.Outcome.{apart}
 use Rattle.numbers_shortening.specs.Shortening.{Acknowledged}
-use Rattle.header_forms.specs.Rules.{inForce}
+use Rattle.header_forms.specs.Rules.{in_force}
 use Rattle.header_writing.specs.Written.{Plain}
 use Rattle.protection.specs.Protection.{Keys}
-use Rattle.packets.specs.Packet.{packetOf, sealed}
+use Rattle.packets.specs.Packet.{packet_of, sealed}
 use Rattle.packets.specs.Sealable.{size_of, Writable}
-use Rattle.protection.specs.AesGcm.{aesGcm}
+use Rattle.protection.specs.AesGcm.{aes_gcm}
 use Rattle.protection.proofs.AesGcmLaws.{aes-gcm-laws}
 use Rattle.packets.proofs.Sealing.{Sealed, sealing, sealing-enters, packet-size}
 use Rattle.seal_judging.specs.declared.Sealing.{Sealing}
 use Rattle.seal_judging.specs.declared.Sealing.TheVariants as Sealing
-use Rattle.seal_judging.specs.Judging.{sealingAnswer}
+use Rattle.seal_judging.specs.Judging.{sealing_answer}
 use Rattle.seal.specs.Sealing.{Seal}
 
 -- a length is given of what is given alone
-stays : (o : Outcome (List ℕ)) {n : ℕ} (before : List ℕ) → refused n ≡ lengthGiven o → before ≡ placed o before
+stays : (o : Outcome (List ℕ)) {n : ℕ} (before : List ℕ) → refused n ≡ length_given o → before ≡ placed o before
 stays (refused m) before h = refl
 stays (given s) before h = absurd (apart h)
 
-is-given : (o : Outcome (List ℕ)) {n : ℕ} → given n ≡ lengthGiven o → (s : List ℕ) × (o ≡ given s)
+is-given : (o : Outcome (List ℕ)) {n : ℕ} → given n ≡ length_given o → (s : List ℕ) × (o ≡ given s)
 is-given (refused m) h = absurd (apart (sym h))
 is-given (given s) h = (s, refl)
 
-module _ (k : Keys) (a : Acknowledged) (p : Plain) (out : List ℕ) {r : Sealing} (judged : sealingAnswer r ≡ lengthGiven (sealed aesGcm inForce k a p (length out))) where
+module _ (k : Keys) (a : Acknowledged) (p : Plain) (out : List ℕ) {r : Sealing} (judged : sealing_answer r ≡ length_given (sealed aes_gcm in_force k a p (length out))) where
   -- refused, and the buffer as it was
   pub refuse : {n : ℕ} → r ≡ Sealing.Refused n → Seal k a p out r out
   refuse is =
-      record { answer = judged; output = stays (sealed aesGcm inForce k a p (length out)) out (ap sealingAnswer (sym is) ∙ judged) }
+      record { answer = judged; output = stays (sealed aes_gcm in_force k a p (length out)) out (ap sealing_answer (sym is) ∙ judged) }
 
   module _ {n : ℕ} (is : r ≡ Sealing.Written n) where
-    whole : (s : List ℕ) × (sealed aesGcm inForce k a p (length out) ≡ given s)
-    whole = is-given (sealed aesGcm inForce k a p (length out)) (ap sealingAnswer (sym is) ∙ judged)
+    whole : (s : List ℕ) × (sealed aes_gcm in_force k a p (length out) ≡ given s)
+    whole = is-given (sealed aes_gcm in_force k a p (length out)) (ap sealing_answer (sym is) ∙ judged)
 
-    made : Sealed aesGcm inForce k p whole.0
-    made = sealing aesGcm inForce k a p (length out) whole.0 whole.1
+    made : Sealed aes_gcm in_force k p whole.0
+    made = sealing aes_gcm in_force k a p (length out) whole.0 whole.1
 
-    size : length (packetOf aesGcm inForce k p) ≡ size_of inForce p
-    size = packet-size aesGcm inForce k p aes-gcm-laws
+    size : length (packet_of aes_gcm in_force k p) ≡ size_of in_force p
+    size = packet-size aes_gcm in_force k p aes-gcm-laws
 
     -- the packet can be written
     pub writable : Writable p (length out)
     writable = record {
       sealable = made.plain;
       size = rw (← size) made.fits;
-      enters = rw (← size) (sealing-enters aesGcm inForce k a p (length out) whole.0 whole.1);
+      enters = rw (← size) (sealing-enters aes_gcm in_force k a p (length out) whole.0 whole.1);
     }
 
     -- and so it stands at the buffer's start
-    pub written : {after : List ℕ} → after ≡ begun (packetOf aesGcm inForce k p) out → Seal k a p out r after
+    pub written : {after : List ℕ} → after ≡ begun (packet_of aes_gcm in_force k p) out → Seal k a p out r after
     written holds = record { answer = judged; output = holds ∙ rw (whole.1, made.is) }

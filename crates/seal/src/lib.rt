@@ -1,14 +1,14 @@
 // Sealing: RFC 9001 section 5, as docs/SCOPE.md, "Protection", has it.
 ghost use Rattle.std.specs.Prelude.{◌≡◌, length};
 ghost use Rattle.octets.specs.Octets.{begun};
-ghost use Rattle.header_forms.specs.Rules.{inForce};
-ghost use Rattle.numbers_shortening.specs.Answers.{acknowledgedOf};
+ghost use Rattle.header_forms.specs.Rules.{in_force};
+ghost use Rattle.numbers_shortening.specs.Answers.{acknowledged_of};
 ghost use Rattle.protection.specs.KeyRecord.{keys_of};
 ghost use Rattle.header_writing.specs.Written.{holding, absent};
-ghost use Rattle.header_writing.specs.Answers.{tokenOf};
-ghost use Rattle.packets.specs.Packet.{packetOf};
+ghost use Rattle.header_writing.specs.Answers.{token_of};
+ghost use Rattle.packets.specs.Packet.{packet_of};
 ghost use Rattle.packets.specs.Sealable.{Writable};
-ghost use Rattle.protection.specs.AesGcm.{aesGcm};
+ghost use Rattle.protection.specs.AesGcm.{aes_gcm};
 ghost use Rattle.seal.specs.Sealing.{Seal};
 
 use header_forms::Form;
@@ -32,8 +32,8 @@ fn write_packet(
     payload: &[u8],
     buffer: &mut [u8],
 )
-    requires { Writable (record { destination = destination.now; source = source.now; token = tokenOf field token.now; payload = payload.now; packetNumber = number; numberLength = count }) (length buffer.old) }
-    ensures { buffer.new ≡ begun (packetOf aesGcm inForce (keys_of keys) (record { destination = destination.entry.now; source = source.now; token = tokenOf field token.now; payload = payload.now; packetNumber = number; numberLength = count })) buffer.old }
+    requires { Writable (record { destination = destination.now; source = source.now; token = token_of field token.now; payload = payload.now; packet_number = number; number_length = count }) (length buffer.old) }
+    ensures { buffer.new ≡ begun (packet_of aes_gcm in_force (keys_of keys) (record { destination = destination.entry.now; source = source.now; token = token_of field token.now; payload = payload.now; packet_number = number; number_length = count })) buffer.old }
 {
     let place = write_header(
         keys.version,
@@ -63,7 +63,7 @@ fn seal_packet(
     payload: &[u8],
     out: &mut [u8],
 ) -> Sealing
-    ensures { Seal (keys_of keys) (acknowledgedOf acknowledged) (record { destination = destination.entry.now; source = source.now; token = tokenOf field token.now; payload = payload.now; packetNumber = number.0; numberLength = count }) out.old result out.new }
+    ensures { Seal (keys_of keys) (acknowledged_of acknowledged) (record { destination = destination.entry.now; source = source.now; token = token_of field token.now; payload = payload.now; packet_number = number.0; number_length = count }) out.old result out.new }
 {
     let answer = judge(
         keys,
@@ -107,7 +107,7 @@ pub fn seal(
     payload: &[u8],
     out: &mut [u8],
 ) -> Sealing
-    ensures { Seal (keys_of keys) (acknowledgedOf acknowledged) (record { destination = destination.entry.now; source = source.now; token = holding token.now; payload = payload.now; packetNumber = number.0; numberLength = count }) out.old result out.new }
+    ensures { Seal (keys_of keys) (acknowledged_of acknowledged) (record { destination = destination.entry.now; source = source.now; token = holding token.now; payload = payload.now; packet_number = number.0; number_length = count }) out.old result out.new }
 {
     seal_packet(
         keys,
@@ -134,7 +134,7 @@ pub fn seal_long(
     payload: &[u8],
     out: &mut [u8],
 ) -> Sealing
-    ensures { Seal (keys_of keys) (acknowledgedOf acknowledged) (record { destination = destination.entry.now; source = source.now; token = absent; payload = payload.now; packetNumber = number.0; numberLength = count }) out.old result out.new }
+    ensures { Seal (keys_of keys) (acknowledged_of acknowledged) (record { destination = destination.entry.now; source = source.now; token = absent; payload = payload.now; packet_number = number.0; number_length = count }) out.old result out.new }
 {
     seal_packet(
         keys,

@@ -1,10 +1,10 @@
 // Sealing, RFC 9001 section 5.3: the payload encrypted behind its header, and the tag over both.
 ghost use Rattle.std.specs.Prelude.{◌≡◌, ◌+◌, ◌-◌, ◌≤◌, length, take};
 ghost use Rattle.octets.specs.Octets.{laid, part};
-ghost use Rattle.gcm.specs.Gcm.{tagBy, hashKey};
-ghost use Rattle.header_forms.specs.Rules.{inForce};
-ghost use Rattle.protection.specs.Clear.{bodyWith};
-ghost use Rattle.protection.specs.AesGcm.{aesGcm};
+ghost use Rattle.gcm.specs.Gcm.{tag_by, hash_key};
+ghost use Rattle.header_forms.specs.Rules.{in_force};
+ghost use Rattle.protection.specs.Clear.{body_with};
+ghost use Rattle.protection.specs.AesGcm.{aes_gcm};
 
 // Section 5.3: the tag over a header that ends at a place, and the ciphertext from there to an end.
 fn tag_over(
@@ -14,8 +14,8 @@ fn tag_over(
     at: usize,
     end: usize,
 ) -> [u8; 16]
-    requires { (at ≤ end) × (end ≤ length packet.now) × (end ≤ inForce.limit) }
-    ensures { result ≡ tagBy schedule.now (hashKey schedule.now) nonce.now (take at packet.now) (part packet.now at (end - at)) }
+    requires { (at ≤ end) × (end ≤ length packet.now) × (end ≤ in_force.limit) }
+    ensures { result ≡ tag_by schedule.now (hash_key schedule.now) nonce.now (take at packet.now) (part packet.now at (end - at)) }
 {
     let hash_key = gcm::hash_key(schedule);
     gcm::make_tag(
@@ -31,8 +31,8 @@ fn tag_over(
 
 // Section 5.3: the payload encrypted behind a header that stands at the buffer's start up to `at`, and the tag over both.
 pub fn write_body(key: &[u8; 16], nonce: &[u8; 12], payload: &[u8], buffer: &mut [u8], at: usize)
-    requires { (at + length payload.now + 16 ≤ length buffer.old) × (at + length payload.now ≤ inForce.limit) }
-    ensures { buffer.new ≡ laid buffer.old at (bodyWith aesGcm key.now nonce.now (take at buffer.old) payload.now) }
+    requires { (at + length payload.now + 16 ≤ length buffer.old) × (at + length payload.now ≤ in_force.limit) }
+    ensures { buffer.new ≡ laid buffer.old at (body_with aes_gcm key.now nonce.now (take at buffer.old) payload.now) }
 {
     let schedule = aes_schedule::expand_key(key);
     gcm_counter::crypt(&schedule, nonce, payload, buffer, at);

@@ -1,6 +1,6 @@
 // Sealing, RFC 9000 sections 17.2.2 to 17.2.4: the plain header with its number.
 ghost use Rattle.std.specs.Prelude.{length};
-ghost use Rattle.header_writing.specs.Answers.{tokenOf};
+ghost use Rattle.header_writing.specs.Answers.{token_of};
 ghost use Rattle.packets.specs.Sealable.{Writable};
 ghost use Rattle.seal_header.specs.HeaderWritten.{HeaderWritten};
 
@@ -20,8 +20,8 @@ pub fn write_header(
     payload: &[u8],
     buffer: &mut [u8],
 ) -> usize
-    requires { Writable (record { destination = destination.now; source = source.now; token = tokenOf field token.now; payload = payload.now; packetNumber = number; numberLength = count }) (length buffer.old) }
-    ensures { HeaderWritten version level (record { destination = destination.entry.now; source = source.now; token = tokenOf field token.now; payload = payload.now; packetNumber = number; numberLength = count }) buffer.old buffer.new result }
+    requires { Writable (record { destination = destination.now; source = source.now; token = token_of field token.now; payload = payload.now; packet_number = number; number_length = count }) (length buffer.old) }
+    ensures { HeaderWritten version level (record { destination = destination.entry.now; source = source.now; token = token_of field token.now; payload = payload.now; packet_number = number; number_length = count }) buffer.old buffer.new result }
 {
     let first = 0xc0 + versions::type_for(version, level) * 16 + (count - 1) as u8;
     let counted = count + payload.len() + TAG_LENGTH;

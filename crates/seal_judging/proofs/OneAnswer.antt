@@ -5,16 +5,16 @@ use Rattle.octets.specs.Outcome.{Outcome, refused, given}
 use Rattle.octets.proofs.Outcome.{once}
 use Rattle.seal_judging.specs.declared.Sealing.{Sealing}
 use Rattle.seal_judging.specs.declared.Sealing.TheVariants as Sealing
-use Rattle.seal_judging.specs.Judging.{sealingAnswer}
+use Rattle.seal_judging.specs.Judging.{sealing_answer}
 
 -- the answer that an outcome is
-abbrev answerBack : Outcome ℕ → Sealing
-answerBack (refused n) = Sealing.Refused n
-answerBack (given n) = Sealing.Written n
+abbrev answer_back : Outcome ℕ → Sealing
+answer_back (refused n) = Sealing.Refused n
+answer_back (given n) = Sealing.Written n
 
-answer_back : (r : Sealing) → answerBack (sealingAnswer r) ≡ r
-answer_back (Sealing.Refused n) = refl
-answer_back (Sealing.Written n) = refl
+answer-back : (r : Sealing) → answer_back (sealing_answer r) ≡ r
+answer-back (Sealing.Refused n) = refl
+answer-back (Sealing.Written n) = refl
 
-pub judge-once : {o : Outcome ℕ} {r r' : Sealing} → sealingAnswer r ≡ o → sealingAnswer r' ≡ o → r ≡ r'
-judge-once = once sealingAnswer answerBack answer_back
+pub judge-once : {o : Outcome ℕ} {r r' : Sealing} → sealing_answer r ≡ o → sealing_answer r' ≡ o → r ≡ r'
+judge-once = once sealing_answer answer_back answer-back

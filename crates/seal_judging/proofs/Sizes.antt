@@ -7,65 +7,65 @@ use lib.Dec.{leb}
 use lib.ListN.{length}
 use borrow.Author.Tests.{le-leb, lt-leb, leb-true, leb-false}
 use Rattle.octets.specs.Outcome.{refused, given}
-use Rattle.octets.specs.Octets.{lengthGiven}
+use Rattle.octets.specs.Octets.{length_given}
 use Rattle.integers_writing.proofs.Forms.{smallest-few}
 use Rattle.numbers_shortening.specs.Shortening.{Acknowledged, shortened}
 use Rattle.versions.specs.Versions.{known}
-use Rattle.header_fields.specs.Fields.{longestId}
-use Rattle.header_forms.specs.Rules.{inForce}
+use Rattle.header_fields.specs.Fields.{longest_id}
+use Rattle.header_forms.specs.Rules.{in_force}
 use Rattle.header_writing.specs.Written.{writes, Plain}
 use Rattle.protection.specs.Protection.{Keys}
-use Rattle.packets.specs.Packet.{packetOf, sealed}
+use Rattle.packets.specs.Packet.{packet_of, sealed}
 use Rattle.packets.specs.Sealable.{size_of}
-use Rattle.protection.specs.AesGcm.{aesGcm}
+use Rattle.protection.specs.AesGcm.{aes_gcm}
 use Rattle.protection.proofs.AesGcmLaws.{aes-gcm-laws}
 use Rattle.packets.proofs.Sealing.{seal-size, seal-room, seal-given, packet-size}
-use Rattle.header_writing.specs.Answers.{tokenSize}
+use Rattle.header_writing.specs.Answers.{token_size}
 use Rattle.header_writing.specs.declared.TokenField.{TokenField}
 use Rattle.header_writing.specs.declared.TokenField.TheVariants as TokenField
 use Rattle.seal_judging.specs.Judging.{held_of, sized}
 
 module _ (size room : ℕ) where
-  pub over-limit : inForce.limit < size → refused 1 ≡ sized size room
+  pub over-limit : in_force.limit < size → refused 1 ≡ sized size room
   unfolding sized
-  over-limit h = rw (lt-leb size inForce.limit h)
+  over-limit h = rw (lt-leb size in_force.limit h)
 
-  pub over-room : size ≤ inForce.limit → room < size → refused 8 ≡ sized size room
+  pub over-room : size ≤ in_force.limit → room < size → refused 8 ≡ sized size room
   unfolding sized
-  over-room fits h = rw (le-leb size inForce.limit fits, lt-leb size room h)
+  over-room fits h = rw (le-leb size in_force.limit fits, lt-leb size room h)
 
-  pub within : size ≤ inForce.limit → size ≤ room → given size ≡ sized size room
+  pub within : size ≤ in_force.limit → size ≤ room → given size ≡ sized size room
   unfolding sized
-  within fits h = rw (le-leb size inForce.limit fits, le-leb size room h)
+  within fits h = rw (le-leb size in_force.limit fits, le-leb size room h)
 
 -- what counts of a token is nearly what it takes
-pub held_below : (field : TokenField) (token : ℕ) → held_of field token ≤ tokenSize field token
+pub held_below : (field : TokenField) (token : ℕ) → held_of field token ≤ token_size field token
 held_below TokenField.Holding token = omega arith
 held_below TokenField.Absent token = omega arith
 
-pub held-nearly : (field : TokenField) (token : ℕ) → tokenSize field token ≤ 4 + held_of field token
+pub held-nearly : (field : TokenField) (token : ℕ) → token_size field token ≤ 4 + held_of field token
 held-nearly TokenField.Holding token = omega (arith, smallest-few token)
 held-nearly TokenField.Absent token = omega arith
 
 -- all is judged but size and room
-module _ (k : Keys) (a : Acknowledged) (p : Plain) (room : ℕ) (ours : known k.version ≡ true) (suits : writes p.token k.level ≡ true) {t : ℕ} (short : given t ≡ shortened p.packetNumber a p.numberLength)
-    (d : length p.destination ≤ longestId) (s : length p.source ≤ longestId) (enough : 4 ≤ p.numberLength + length p.payload) where
-  size : length (packetOf aesGcm inForce k p) ≡ size_of inForce p
-  size = packet-size aesGcm inForce k p aes-gcm-laws
+module _ (k : Keys) (a : Acknowledged) (p : Plain) (room : ℕ) (ours : known k.version ≡ true) (suits : writes p.token k.level ≡ true) {t : ℕ} (short : given t ≡ shortened p.packet_number a p.number_length)
+    (d : length p.destination ≤ longest_id) (s : length p.source ≤ longest_id) (enough : 4 ≤ p.number_length + length p.payload) where
+  size : length (packet_of aes_gcm in_force k p) ≡ size_of in_force p
+  size = packet-size aes_gcm in_force k p aes-gcm-laws
 
-  pub size-left : sized (size_of inForce p) room ≡ lengthGiven (sealed aesGcm inForce k a p room)
-  size-left = by (leb (size_of inForce p) inForce.limit) refl (leb (size_of inForce p) room) refl
+  pub size-left : sized (size_of in_force p) room ≡ length_given (sealed aes_gcm in_force k a p room)
+  size-left = by (leb (size_of in_force p) in_force.limit) refl (leb (size_of in_force p) room) refl
     where
-      by : (b : Bool) → leb (size_of inForce p) inForce.limit ≡ b → (c : Bool) → leb (size_of inForce p) room ≡ c → sized (size_of inForce p) room ≡ lengthGiven (sealed aesGcm inForce k a p room)
+      by : (b : Bool) → leb (size_of in_force p) in_force.limit ≡ b → (c : Bool) → leb (size_of in_force p) room ≡ c → sized (size_of in_force p) room ≡ length_given (sealed aes_gcm in_force k a p room)
       by false large c e =
           let h = leb-false _ _ large in
-          sym (over-limit (size_of inForce p) room h) ∙ ap lengthGiven (sym (seal-size aesGcm inForce k a p room ours suits short d s enough (rw size h)))
+          sym (over-limit (size_of in_force p) room h) ∙ ap length_given (sym (seal-size aes_gcm in_force k a p room ours suits short d s enough (rw size h)))
       by true fits false full =
           let f = leb-true _ _ fits in
           let h = leb-false _ _ full in
-          sym (over-room (size_of inForce p) room f h) ∙ ap lengthGiven (sym (seal-room aesGcm inForce k a p room ours suits short d s enough (rw size f) (rw size h)))
+          sym (over-room (size_of in_force p) room f h) ∙ ap length_given (sym (seal-room aes_gcm in_force k a p room ours suits short d s enough (rw size f) (rw size h)))
       by true fits true enters =
           let f = leb-true _ _ fits in
           let h = leb-true _ _ enters in
-          sym (within (size_of inForce p) room f h) ∙ ap given (sym size)
-          ∙ ap lengthGiven (sym (seal-given aesGcm inForce k a p room ours suits short d s enough (rw size f) (rw size h)))
+          sym (within (size_of in_force p) room f h) ∙ ap given (sym size)
+          ∙ ap length_given (sym (seal-given aes_gcm in_force k a p room ours suits short d s enough (rw size f) (rw size h)))

@@ -1,14 +1,14 @@
 // Sealing, as far as nothing is written: what is asked is judged in the order of docs/SCOPE.md, "Order of refusals".
 ghost use Rattle.std.specs.Prelude.{◌≡◌, ◌+◌, ◌≤◌, length};
-ghost use Rattle.octets.specs.Octets.{lengthGiven};
-ghost use Rattle.numbers_shortening.specs.Answers.{acknowledgedOf};
-ghost use Rattle.header_fields.specs.Fields.{longestId};
-ghost use Rattle.header_forms.specs.Rules.{inForce};
-ghost use Rattle.header_writing.specs.Answers.{tokenOf, tokenSize};
+ghost use Rattle.octets.specs.Octets.{length_given};
+ghost use Rattle.numbers_shortening.specs.Answers.{acknowledged_of};
+ghost use Rattle.header_fields.specs.Fields.{longest_id};
+ghost use Rattle.header_forms.specs.Rules.{in_force};
+ghost use Rattle.header_writing.specs.Answers.{token_of, token_size};
 ghost use Rattle.protection.specs.KeyRecord.{keys_of};
 ghost use Rattle.packets.specs.Packet.{sealed};
-ghost use Rattle.protection.specs.AesGcm.{aesGcm};
-ghost use Rattle.seal_judging.specs.Judging.{sealingAnswer, held_of, sized};
+ghost use Rattle.protection.specs.AesGcm.{aes_gcm};
+ghost use Rattle.seal_judging.specs.Judging.{sealing_answer, held_of, sized};
 
 use header_fields::{LONGEST_ID, TAG_LENGTH};
 use header_forms::LIMIT;
@@ -44,8 +44,8 @@ fn size_of(
     token: usize,
     payload: usize,
 ) -> usize
-    requires { (count ≤ 4) × (destination ≤ inForce.limit) × (source ≤ inForce.limit) × (held_of field token ≤ inForce.limit) × (payload ≤ inForce.limit) }
-    ensures { result ≡ 7 + destination + source + tokenSize field token + length (inForce.lengthForm (count + payload + 16)) + (count + payload + 16) }
+    requires { (count ≤ 4) × (destination ≤ in_force.limit) × (source ≤ in_force.limit) × (held_of field token ≤ in_force.limit) × (payload ≤ in_force.limit) }
+    ensures { result ≡ 7 + destination + source + token_size field token + length (in_force.length_form (count + payload + 16)) + (count + payload + 16) }
 {
     let counted = count + payload + TAG_LENGTH;
     7 + destination
@@ -65,8 +65,8 @@ fn judge_size(
     payload: usize,
     room: usize,
 ) -> Sealing
-    requires { (count ≤ 4) × (destination ≤ longestId) × (source ≤ longestId) }
-    ensures { sealingAnswer result ≡ sized (7 + destination + source + tokenSize field token + length (inForce.lengthForm (count + payload + 16)) + (count + payload + 16)) room }
+    requires { (count ≤ 4) × (destination ≤ longest_id) × (source ≤ longest_id) }
+    ensures { sealing_answer result ≡ sized (7 + destination + source + token_size field token + length (in_force.length_form (count + payload + 16)) + (count + payload + 16)) room }
 {
     if LIMIT < held(field, token) {
         return Sealing::Refused(refusal::SIZE);
@@ -97,7 +97,7 @@ pub fn judge(
     payload: &[u8],
     room: usize,
 ) -> Sealing
-    ensures { sealingAnswer result ≡ lengthGiven (sealed aesGcm inForce (keys_of keys) (acknowledgedOf acknowledged) (record { destination = destination.entry.now; source = source.now; token = tokenOf field token.now; payload = payload.now; packetNumber = number.0; numberLength = count }) room) }
+    ensures { sealing_answer result ≡ length_given (sealed aes_gcm in_force (keys_of keys) (acknowledged_of acknowledged) (record { destination = destination.entry.now; source = source.now; token = token_of field token.now; payload = payload.now; packet_number = number.0; number_length = count }) room) }
 {
     if !versions::is_known(keys.version) {
         return Sealing::Refused(refusal::VERSION);

@@ -8,7 +8,7 @@ use Rattle.octets.specs.Octets.{part, xor, laid}
 use Rattle.octets.proofs.Parts.{part_length}
 use Rattle.octets.proofs.Buffers.{front-laid}
 use Rattle.header_forms.specs.Forms.{Form}
-use Rattle.protection.specs.Protection.{onFirst, onNumber, masked}
+use Rattle.protection.specs.Protection.{on_first, on_number, masked}
 use Rattle.protection.proofs.Parts.{mask-rest}
 
 -- the number's bytes, put at the start of a small buffer and taken from there
@@ -24,10 +24,10 @@ rest-length mask sixteen = part_length mask 1 15 (omega arith)
 -- what is laid over the first byte and the number is the mask
 pub mask-laid : (form : Form) (mask buffer one two short : List ℕ) (place count first : ℕ) → length mask ≡ 16
     → one ≡ laid buffer 0 (first ∷ [])
-    → first ≡ onFirst form mask (get_or buffer 0 0)
+    → first ≡ on_first form mask (get_or buffer 0 0)
     → short ≡ part buffer place count
     → two ≡ laid one place (xor short (take 15 (drop 1 mask)))
     → two ≡ masked form mask place count buffer
-unfolding masked onNumber
+unfolding masked on_number
 mask-laid form mask buffer one two short place count first sixteen put its-first number then =
     rw (then, put, its-first, number, mask-rest mask sixteen)

@@ -10,9 +10,9 @@ use Rattle.octets.proofs.Parts.{part-front, regroup}
 use Rattle.octets.proofs.Buffers.{begun-front, goes_on}
 use Rattle.aes_byte_rounds.specs.Cipher.{cipher}
 use Rattle.header_forms.specs.Forms.{Form}
-use Rattle.protection.specs.Protection.{Keys, nonce, onFirst, onNumber, sampleOf, masked}
-use Rattle.protection.specs.Clear.{Clear, numberAt, plainHeader, bodyWith, body_of, protected}
-use Rattle.protection.specs.AesGcm.{aesGcm}
+use Rattle.protection.specs.Protection.{Keys, nonce, on_first, on_number, sample_of, masked}
+use Rattle.protection.specs.Clear.{Clear, number_at, plain_header, body_with, body_of, protected}
+use Rattle.protection.specs.AesGcm.{aes_gcm}
 use Rattle.protection.proofs.Parts.{masked-length}
 use Rattle.protection.proofs.RoundTrip.{short-length, plain-length, body-length, protected-length}
 use Rattle.protection.proofs.AesGcmLaws.{aes-gcm-laws}
@@ -25,63 +25,63 @@ relaid a b b' c at here same =
 
 -- the mask over a first byte, fields, a number and what stands behind
 mask-over : (form : Form) (mask f s rest : List ℕ) (b n : ℕ) → length s ≡ n
-    → masked form mask (suc (length f)) n (b ∷ (f ++ (s ++ rest))) ≡ onFirst form mask b ∷ (f ++ onNumber mask s ++ rest)
+    → masked form mask (suc (length f)) n (b ∷ (f ++ (s ++ rest))) ≡ on_first form mask b ∷ (f ++ on_number mask s ++ rest)
 unfolding masked
 mask-over form mask f s rest b n is =
     let number : part (b ∷ (f ++ (s ++ rest))) (suc (length f)) n ≡ s
     = ap (take n) (drop_at f (s ++ rest) (length f) refl) ∙ take_at s rest n is in
-    rw number (relaid (onFirst form mask b ∷ f) s (onNumber mask s) rest (suc (length f)) refl (masked-length mask s))
+    rw number (relaid (on_first form mask b ∷ f) s (on_number mask s) rest (suc (length f)) refl (masked-length mask s))
 
 module _ (form : Form) (k : Keys) (c : Clear) where
   abbrev header : List ℕ
-  header = plainHeader c
+  header = plain_header c
 
   abbrev body : List ℕ
-  body = body_of aesGcm k c
+  body = body_of aes_gcm k c
 
   abbrev short : List ℕ
-  short = bytes c.numberLength c.packetNumber
+  short = bytes c.number_length c.packet_number
 
   size : length body ≡ length c.payload + 16
-  size = body-length aesGcm k c aes-gcm-laws
+  size = body-length aes_gcm k c aes-gcm-laws
 
   -- plain header and body, before the mask
-  body-behind : (out one two : List ℕ) (place : ℕ) → place ≡ numberAt c → one ≡ begun header out
-      → two ≡ laid one (place + c.numberLength) (bodyWith aesGcm k.key (nonce k.iv c.packetNumber) (take (place + c.numberLength) one) c.payload)
+  body-behind : (out one two : List ℕ) (place : ℕ) → place ≡ number_at c → one ≡ begun header out
+      → two ≡ laid one (place + c.number_length) (body_with aes_gcm k.key (nonce k.iv c.packet_number) (take (place + c.number_length) one) c.payload)
       → two ≡ begun (header ++ body) out
   unfolding body_of
   body-behind out one two place here begins then =
-      let end : place + c.numberLength ≡ length header = omega (arith, plain-length c) in
-      let plain : take (place + c.numberLength) one ≡ header
-      = rw begins (begun-front header out (place + c.numberLength) (sym end)) in
-      goes_on header body out one two (place + c.numberLength) begins
-      (then ∙ ap (λ (h : List ℕ). laid one (place + c.numberLength) (bodyWith aesGcm k.key (nonce k.iv c.packetNumber) h c.payload)) plain) end
+      let end : place + c.number_length ≡ length header = omega (arith, plain-length c) in
+      let plain : take (place + c.number_length) one ≡ header
+      = rw begins (begun-front header out (place + c.number_length) (sym end)) in
+      goes_on header body out one two (place + c.number_length) begins
+      (then ∙ ap (λ (h : List ℕ). laid one (place + c.number_length) (body_with aes_gcm k.key (nonce k.iv c.packet_number) h c.payload)) plain) end
 
   -- the sample reaches into the tag at the furthest
-  sample-inside : (rest : List ℕ) → 4 ≤ c.numberLength + length c.payload → sampleOf ((header ++ body) ++ rest) (numberAt c) ≡ sampleOf (header ++ body) (numberAt c)
-  unfolding sampleOf
+  sample-inside : (rest : List ℕ) → 4 ≤ c.number_length + length c.payload → sample_of ((header ++ body) ++ rest) (number_at c) ≡ sample_of (header ++ body) (number_at c)
+  unfolding sample_of
   sample-inside rest enough =
-      part-front (header ++ body) rest (numberAt c + 4) 16 (omega (arith, length-append header body, plain-length c, size))
+      part-front (header ++ body) rest (number_at c + 4) 16 (omega (arith, length-append header body, plain-length c, size))
 
-  pub protected-laid : (out one two mask three : List ℕ) (place : ℕ) → 4 ≤ c.numberLength + length c.payload
-      → place ≡ numberAt c
+  pub protected-laid : (out one two mask three : List ℕ) (place : ℕ) → 4 ≤ c.number_length + length c.payload
+      → place ≡ number_at c
       → one ≡ begun header out
-      → two ≡ laid one (place + c.numberLength) (bodyWith aesGcm k.key (nonce k.iv c.packetNumber) (take (place + c.numberLength) one) c.payload)
-      → mask ≡ cipher k.hp (sampleOf two place)
-      → three ≡ masked form mask place c.numberLength two
-      → three ≡ begun (protected aesGcm form k c) out
+      → two ≡ laid one (place + c.number_length) (body_with aes_gcm k.key (nonce k.iv c.packet_number) (take (place + c.number_length) one) c.payload)
+      → mask ≡ cipher k.hp (sample_of two place)
+      → three ≡ masked form mask place c.number_length two
+      → three ≡ begun (protected aes_gcm form k c) out
   unfolding protected
   protected-laid out one two mask three place enough here begins behind sampled over =
       let rest : List ℕ = drop (length (header ++ body)) out in
       let whole = body-behind out one two place here begins behind in
-      let m : List ℕ = cipher k.hp (sampleOf (header ++ body) (numberAt c)) in
-      let is : mask ≡ m = sampled ∙ ap (cipher k.hp) (ap₂ sampleOf whole here ∙ sample-inside rest enough) in
+      let m : List ℕ = cipher k.hp (sample_of (header ++ body) (number_at c)) in
+      let is : mask ≡ m = sampled ∙ ap (cipher k.hp) (ap₂ sample_of whole here ∙ sample-inside rest enough) in
       let at : place ≡ suc (length c.fields) = omega (arith, here) in
-      let same : length (protected aesGcm form k c) ≡ length (header ++ body)
-      = protected-length aesGcm k c form aes-gcm-laws ∙ omega (arith, length-append header body, plain-length c, size) in
-      let masked-is : masked form mask place c.numberLength two ≡ onFirst form m c.first ∷ (c.fields ++ onNumber m short ++ (body ++ rest))
+      let same : length (protected aes_gcm form k c) ≡ length (header ++ body)
+      = protected-length aes_gcm k c form aes-gcm-laws ∙ omega (arith, length-append header body, plain-length c, size) in
+      let masked-is : masked form mask place c.number_length two ≡ on_first form m c.first ∷ (c.fields ++ on_number m short ++ (body ++ rest))
       = rw (is, at, whole, regroup c.fields short body rest)
-      (mask-over form m c.fields short (body ++ rest) c.first c.numberLength (short-length c)) in
+      (mask-over form m c.fields short (body ++ rest) c.first c.number_length (short-length c)) in
       over ∙ masked-is
-      ∙ sym (append_assoc (onFirst form m c.first ∷ (c.fields ++ onNumber m short)) body rest)
-      ∙ ap (λ (n : ℕ). protected aesGcm form k c ++ drop n out) (sym same)
+      ∙ sym (append_assoc (on_first form m c.first ∷ (c.fields ++ on_number m short)) body rest)
+      ∙ ap (λ (n : ℕ). protected aes_gcm form k c ++ drop n out) (sym same)

@@ -15,13 +15,13 @@ words block = map number (parsed 16 4 block)
 
 -- ---- 6.2.2 step 1: the message schedule
 -- W_t, from the sixteen words before it: W_(t-16) is the first of them
-abbrev pub nextWord : List ℕ → ℕ
-nextWord w = σ₁ (slice_index w 14) ⊞ slice_index_or w 9 0 ⊞ σ₀ (slice_index w 1) ⊞ slice_index_or w 0 0
+abbrev pub next_word : List ℕ → ℕ
+next_word w = σ₁ (slice_index w 14) ⊞ slice_index_or w 9 0 ⊞ σ₀ (slice_index w 1) ⊞ slice_index_or w 0 0
 
 -- the sixteen words W_t to W_(t+15)
 unfoldable pub window : List ℕ → ℕ → List ℕ
 window m zero = m
-window m (suc t) = drop 1 (window m t) ++ (nextWord (window m t) ∷ [])
+window m (suc t) = drop 1 (window m t) ++ (next_word (window m t) ∷ [])
 
 unfoldable pub W : List ℕ → ℕ → ℕ
 W m t = slice_index (window m t) 0

@@ -9,14 +9,14 @@ use borrow.Author.Tests.{eqb-true, eqb-false, ltb-true, ltb-false, not-true, not
 use lib.Dec.{eqb, ltb}
 use lib.ListN.{length, get_or, take, drop, length-take, length-drop, drop_of_length-le}
 use lib.Seq.{take-nil}
-use Rattle.terminal_words.specs.Words.{until, is, isNot, end_at, past_at, word_at, word_of, startsAt, wordsUpTo, wordCount}
+use Rattle.terminal_words.specs.Words.{until, is, is_not, end_at, past_at, word_at, word_of, starts_at, words_up_to, word_count}
 use Rattle.terminal_words.proofs.Separators.{until-turn, until-stops, until-ends, starts-not, starts_first, starts-behind, count-one, count_none}
 
 module _ (s : ℕ) (t : List ℕ) where
   -- ---- from a place on, up to the first character that a test finds, where no word starts on the way
   record Walked (test : ℕ → Bool) (p q : ℕ) : Type 0 where
     inside : q ≤ length t
-    counted : wordsUpTo s t q ≡ wordsUpTo s t p
+    counted : words_up_to s t q ≡ words_up_to s t p
     ahead : q < length t → test (get_or t q 0) ≡ true
     behind : p < q → test (get_or t (q - 1) 0) ≡ false
 
@@ -25,7 +25,7 @@ module _ (s : ℕ) (t : List ℕ) where
     stays p q e h f =
         subst (Walked test p) (sym e) (record { inside = h; counted = refl; ahead = f; behind = λ l. absurd (omega arith) })
 
-    goes_on : (p q : ℕ) → p + 1 ≤ q → test (get_or t p 0) ≡ false → startsAt s t p ≡ false → Walked test (p + 1) q → Walked test p q
+    goes_on : (p q : ℕ) → p + 1 ≤ q → test (get_or t p 0) ≡ false → starts_at s t p ≡ false → Walked test (p + 1) q → Walked test p q
     goes_on p q m e none rest = record {
       inside = rest.inside;
       counted = rest.counted ∙ count_none s t p none;
@@ -39,7 +39,7 @@ module _ (s : ℕ) (t : List ℕ) where
 
     -- what holds at a place keeps a word from starting there, and holds at the next
     module _ (Holds : ℕ → Type 0)
-        (keeps : (k : ℕ) → k < length t → test (get_or t k 0) ≡ false → Holds k → (startsAt s t k ≡ false) × Holds (k + 1)) where
+        (keeps : (k : ℕ) → k < length t → test (get_or t k 0) ≡ false → Holds k → (starts_at s t k ≡ false) × Holds (k + 1)) where
       walks : (left p : ℕ) → p ≤ length t → length t ≤ p + left → Holds p → Walked test p (p + until test (drop p t))
       walks zero p h l w = stays p _ (omega (arith, until-ends test t p (omega arith))) h (λ n. absurd (omega arith))
       walks (suc left) p h l w = by (walks left (p + 1)) (ltb p (length t)) refl (test (get_or t p 0)) refl
@@ -57,9 +57,9 @@ module _ (s : ℕ) (t : List ℕ) where
               goes_on p _ (omega arith) e kept.0 (subst (Walked test (p + 1)) next (rest (omega arith) (omega arith) kept.1))
 
   -- over separators
-  passes : (p : ℕ) → p ≤ length t → Walked (isNot s) p (past_at s t p)
+  passes : (p : ℕ) → p ≤ length t → Walked (is_not s) p (past_at s t p)
   passes p h =
-      walks (isNot s) (λ k. Unit {0}) (λ k l e w. (starts-not s t k l (eqb-true _ _ (not-false _ e)), tt)) (length t) p h (omega arith) tt
+      walks (is_not s) (λ k. Unit {0}) (λ k l e w. (starts-not s t k l (eqb-true _ _ (not-false _ e)), tt)) (length t) p h (omega arith) tt
 
   -- over the rest of a word, from behind a character of it on
   abbrev Within : ℕ → Type 0
@@ -68,7 +68,7 @@ module _ (s : ℕ) (t : List ℕ) where
   runs : (p : ℕ) → p ≤ length t → Within p → Walked (is s) p (end_at s t p)
   runs p h w = walks (is s) Within keeps (length t) p h (omega arith) w
     where
-      keeps : (k : ℕ) → k < length t → eqb (get_or t k 0) s ≡ false → Within k → (startsAt s t k ≡ false) × Within (k + 1)
+      keeps : (k : ℕ) → k < length t → eqb (get_or t k 0) s ≡ false → Within k → (starts_at s t k ≡ false) × Within (k + 1)
       keeps k l e w =
           let here : k + 1 - 1 ≡ k = omega arith in
           let some = w.0 in
@@ -78,14 +78,14 @@ module _ (s : ℕ) (t : List ℕ) where
   record Found (i p : ℕ) : Type 0 where
     inside : p < length t
     letter : eqb (get_or t p 0) s ≡ false
-    starts : startsAt s t p ≡ true
-    counted : wordsUpTo s t p ≡ i
+    starts : starts_at s t p ≡ true
+    counted : words_up_to s t p ≡ i
 
   record Gone (i p : ℕ) : Type 0 where
     end : p ≡ length t
-    counted : wordCount s t ≤ i
+    counted : word_count s t ≤ i
 
-  judged : (i a p : ℕ) → Walked (isNot s) a p → wordsUpTo s t a ≡ i → (p < length t → (p ≡ 0) ⊎ (a < p)) → Found i p ⊎ Gone i p
+  judged : (i a p : ℕ) → Walked (is_not s) a p → words_up_to s t a ≡ i → (p < length t → (p ≡ 0) ⊎ (a < p)) → Found i p ⊎ Gone i p
   judged i a p r c first = by (ltb p (length t)) refl
     where
       by : (b : Bool) → ltb p (length t) ≡ b → Found i p ⊎ Gone i p
@@ -93,7 +93,7 @@ module _ (s : ℕ) (t : List ℕ) where
           let more = ltb-true p (length t) m in
           let letter = not-true _ (r.ahead more) in
           let other = eqb-false (get_or t p 0) s letter in
-          let starts : startsAt s t p ≡ true =
+          let starts : starts_at s t p ≡ true =
           ⊎_elim
           (λ z. starts_first s t p more other z)
           (λ n. starts-behind s t p more other (λ z. absurd (omega arith)) ∙ not-false _ (r.behind n))
@@ -101,7 +101,7 @@ module _ (s : ℕ) (t : List ℕ) where
           inl (record { inside = more; letter = letter; starts = starts; counted = r.counted ∙ c })
       by false m =
           let end : p ≡ length t = omega (arith, ltb-false p (length t) m, r.inside) in
-          inr (record { end = end; counted = omega (arith, ap (wordsUpTo s t) end, r.counted, c) })
+          inr (record { end = end; counted = omega (arith, ap (words_up_to s t) end, r.counted, c) })
 
   first-or : (p : ℕ) → (p ≡ 0) ⊎ (0 < p)
   first-or zero = inl refl
@@ -119,7 +119,7 @@ module _ (s : ℕ) (t : List ℕ) where
       let q = passes (end_at s t p) ran.inside in
       judged (suc i) (end_at s t p) _ q (omega (arith, ran.counted, one, f.counted)) (λ m. inr (moved (end_at s t p) _ (omega arith) ran q m))
     where
-      moved : (e q : ℕ) → e ≤ q → Walked (is s) (p + 1) e → Walked (isNot s) e q → q < length t → e < q
+      moved : (e q : ℕ) → e ≤ q → Walked (is s) (p + 1) e → Walked (is_not s) e q → q < length t → e < q
       moved e q le ran past m = by (ltb e q) refl
         where
           by : (b : Bool) → ltb e q ≡ b → e < q
@@ -130,7 +130,7 @@ module _ (s : ℕ) (t : List ℕ) where
               absurd (false≢true (sym (not-true _ (past.ahead m)) ∙ is))
 
   stands : (i : ℕ) → Found i (word_at s t i) ⊎ Gone i (word_at s t i)
-  unfolding word_at wordsUpTo
+  unfolding word_at words_up_to
   stands zero = judged 0 0 _ (passes 0 (omega arith)) refl (λ m. first-or _)
   stands (suc i) =
       ⊎_elim
@@ -141,24 +141,24 @@ module _ (s : ℕ) (t : List ℕ) where
       end : word_at s t i ≡ length t → past_at s t (end_at s t (word_at s t i)) ≡ length t
       end e =
           let stop : end_at s t (word_at s t i) ≡ length t = omega (arith, until-ends (is s) t (word_at s t i) (omega arith)) in
-          omega (arith, until-ends (isNot s) t (end_at s t (word_at s t i)) (omega arith))
+          omega (arith, until-ends (is_not s) t (end_at s t (word_at s t i)) (omega arith))
 
-  more-counted : (p k : ℕ) → wordsUpTo s t p ≤ wordsUpTo s t (p + k)
+  more-counted : (p k : ℕ) → words_up_to s t p ≤ words_up_to s t (p + k)
   more-counted p zero =
       let none : p + 0 ≡ p = omega arith in
-      omega (arith, ap (wordsUpTo s t) none)
-  more-counted p (suc k) = by (more-counted p k) (startsAt s t (p + k)) refl
+      omega (arith, ap (words_up_to s t) none)
+  more-counted p (suc k) = by (more-counted p k) (starts_at s t (p + k)) refl
     where
-      by : wordsUpTo s t p ≤ wordsUpTo s t (p + k) → (b : Bool) → startsAt s t (p + k) ≡ b → wordsUpTo s t p ≤ wordsUpTo s t (p + suc k)
+      by : words_up_to s t p ≤ words_up_to s t (p + k) → (b : Bool) → starts_at s t (p + k) ≡ b → words_up_to s t p ≤ words_up_to s t (p + suc k)
       by before true h =
           let one : p + suc k ≡ p + k + 1 = omega arith in
-          omega (arith, ap (wordsUpTo s t) one, count-one s t (p + k) h)
+          omega (arith, ap (words_up_to s t) one, count-one s t (p + k) h)
       by before false h =
           let one : p + suc k ≡ p + k + 1 = omega arith in
-          omega (arith, ap (wordsUpTo s t) one, count_none s t (p + k) h)
+          omega (arith, ap (words_up_to s t) one, count_none s t (p + k) h)
 
   -- ---- the word of an index is there just when its index is below the count
-  pub word-there : (i : ℕ) → i < wordCount s t → 1 ≤ length (word_of s t i)
+  pub word-there : (i : ℕ) → i < word_count s t → 1 ≤ length (word_of s t i)
   word-there i l = ⊎_elim found (λ g. absurd (omega (arith, g.counted))) (stands i)
     where
       found : Found i (word_at s t i) → 1 ≤ length (word_of s t i)
@@ -167,7 +167,7 @@ module _ (s : ℕ) (t : List ℕ) where
           let inside = f.inside in
           omega (arith, length-take (until (is s) (drop p t)) (drop p t), length-drop p t, until-turn (is s) t p inside f.letter)
 
-  pub word-gone : (i : ℕ) → wordCount s t ≤ i → word_of s t i ≡ []
+  pub word-gone : (i : ℕ) → word_count s t ≤ i → word_of s t i ≡ []
   word-gone i l = ⊎_elim found (λ g. gone g.end) (stands i)
     where
       found : Found i (word_at s t i) → word_of s t i ≡ []
@@ -175,7 +175,7 @@ module _ (s : ℕ) (t : List ℕ) where
           let p = word_at s t i in
           let inside = f.inside in
           let rest : p + 1 + (length t - (p + 1)) ≡ length t = omega arith in
-          let all = ap (wordsUpTo s t) rest in
+          let all = ap (words_up_to s t) rest in
           absurd (omega (arith, count-one s t p f.starts, f.counted, more-counted (p + 1) (length t - (p + 1)), all))
 
       gone : word_at s t i ≡ length t → word_of s t i ≡ []

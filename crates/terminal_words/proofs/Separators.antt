@@ -10,7 +10,7 @@ use native.Mathlib.Omega.{arith}
 use lib.ListN.{length, get_or, take, drop, drop_of_length-le}
 use lib.Seq.{drop-cons}
 use Rattle.octets.specs.Octets.{part}
-use Rattle.terminal_words.specs.Words.{until, is, end_at, past_at, word_at, word_of, startsAt, wordsUpTo}
+use Rattle.terminal_words.specs.Words.{until, is, end_at, past_at, word_at, word_of, starts_at, words_up_to}
 
 -- ---- what stands before the first character that a test finds
 module _ (test : ℕ → Bool) (t : List ℕ) (i : ℕ) where
@@ -28,29 +28,29 @@ module _ (test : ℕ → Bool) (t : List ℕ) (i : ℕ) where
 
 -- ---- whether a word starts at a place
 module _ (s : ℕ) (t : List ℕ) (at : ℕ) where
-  pub starts-ends : length t ≤ at → startsAt s t at ≡ false
-  unfolding startsAt
+  pub starts-ends : length t ≤ at → starts_at s t at ≡ false
+  unfolding starts_at
   starts-ends l = simp (le-ltb at (length t) l)
 
-  pub starts-not : at < length t → get_or t at 0 ≡ s → startsAt s t at ≡ false
-  unfolding startsAt
+  pub starts-not : at < length t → get_or t at 0 ≡ s → starts_at s t at ≡ false
+  unfolding starts_at
   starts-not l h = simp (lt-ltb at (length t) l, eq-eqb (get_or t at 0) s h)
 
-  pub starts_first : at < length t → (get_or t at 0 ≡ s → ⊥) → at ≡ 0 → startsAt s t at ≡ true
-  unfolding startsAt
+  pub starts_first : at < length t → (get_or t at 0 ≡ s → ⊥) → at ≡ 0 → starts_at s t at ≡ true
+  unfolding starts_at
   starts_first l h e = simp (lt-ltb at (length t) l, ne_eqb (get_or t at 0) s h, eq-eqb at 0 e)
 
-  pub starts-behind : at < length t → (get_or t at 0 ≡ s → ⊥) → (at ≡ 0 → ⊥) → startsAt s t at ≡ eqb (get_or t (at - 1) 0) s
-  unfolding startsAt
+  pub starts-behind : at < length t → (get_or t at 0 ≡ s → ⊥) → (at ≡ 0 → ⊥) → starts_at s t at ≡ eqb (get_or t (at - 1) 0) s
+  unfolding starts_at
   starts-behind l h e = simp (lt-ltb at (length t) l, ne_eqb (get_or t at 0) s h, ne_eqb at 0 e)
 
   -- ---- words counted
-  pub count-one : startsAt s t at ≡ true → wordsUpTo s t (at + 1) ≡ wordsUpTo s t at + 1
-  unfolding wordsUpTo
-  count-one h = rw (add-one at, h, add-one (wordsUpTo s t at))
+  pub count-one : starts_at s t at ≡ true → words_up_to s t (at + 1) ≡ words_up_to s t at + 1
+  unfolding words_up_to
+  count-one h = rw (add-one at, h, add-one (words_up_to s t at))
 
-  pub count_none : startsAt s t at ≡ false → wordsUpTo s t (at + 1) ≡ wordsUpTo s t at
-  unfolding wordsUpTo
+  pub count_none : starts_at s t at ≡ false → words_up_to s t (at + 1) ≡ words_up_to s t at
+  unfolding words_up_to
   count_none h = rw (add-one at, h)
 
 -- ---- the place of a word

@@ -1,7 +1,7 @@
 // Words of a text: the runs of characters between separators.
 ghost use Rattle.std.specs.Prelude.{◌≡◌, ◌≤◌, length};
 ghost use Rattle.octets.specs.Octets as Octets;
-ghost use Rattle.terminal_words.specs.Words.{end_at, past_at, word_at, word_of, startsAt, wordCount};
+ghost use Rattle.terminal_words.specs.Words.{end_at, past_at, word_at, word_of, starts_at, word_count};
 
 // Whether two texts are the same.
 pub fn same(a: &[u8], b: &[u8]) -> bool
@@ -74,7 +74,7 @@ pub fn word(text: &[u8], index: usize, separator: u8) -> &[u8]
 
 // Whether a word starts at a place.
 fn starts(text: &[u8], at: usize, separator: u8) -> bool
-    ensures { result ≡ startsAt separator text.now at }
+    ensures { result ≡ starts_at separator text.now at }
 {
     if text.len() <= at {
         return false;
@@ -90,7 +90,7 @@ fn starts(text: &[u8], at: usize, separator: u8) -> bool
 
 // How many words there are.
 pub fn count(text: &[u8], separator: u8) -> usize
-    ensures { result ≡ wordCount separator text.now }
+    ensures { result ≡ word_count separator text.now }
 {
     let mut words: usize = 0;
     let mut at: usize = 0;

@@ -2,7 +2,7 @@
 // above the one before it, modulo 256.
 ghost use Rattle.std.specs.Prelude.{◌≡◌, ◌≤◌};
 ghost use Rattle.io.specs.Counts.{IsPrefixLen};
-ghost use Rattle.vectors.specs.Records.{byteSpelt};
+ghost use Rattle.vectors.specs.Records.{byte_spelt};
 
 use console::fields::{END, number, value};
 use digits_reading::decode;
@@ -10,7 +10,7 @@ use terminal_words::{count, word};
 
 // The last byte of the number that a text spells.
 pub fn byte(text: &[u8]) -> u8
-    ensures { result ≡ byteSpelt text.now }
+    ensures { result ≡ byte_spelt text.now }
 {
     (value(text) % 256) as u8
 }

@@ -1,7 +1,7 @@
 // RFC 9001 sections 5.1 and 5.2: keys made of a connection ID, and of a secret.
 ghost use Rattle.std.specs.Prelude.{◌≡◌};
 ghost use Rattle.protection.specs.KeyRecord.{keys_of};
-ghost use Rattle.vectors.specs.Records.{recordNamed};
+ghost use Rattle.vectors.specs.Records.{record_named};
 
 use crate::{fields, print};
 use console::fields::{END, number};
@@ -46,7 +46,7 @@ pub fn install(line: &[u8]) {
 // The keys of a call on packets: VERSION ID client|server, and blank ones where they are refused; or VERSION LEVEL:SECRET, a record
 // whose version and level byte may be any, as a caller in C may hand it over.
 pub fn record_of(line: &[u8]) -> Keys
-    ensures { keys_of result ≡ recordNamed line.now }
+    ensures { keys_of result ≡ record_named line.now }
 {
     let origin = word(line, 2, END);
     if count(origin, b':') != 2 {

@@ -4,6 +4,6 @@ use Rattle.octets.specs.Outcome.{Outcome, refused, given}
 use Rattle.versions.specs.declared.Leveled.{Leveled}
 use Rattle.versions.specs.declared.Leveled.TheVariants as Leveled
 
-abbrev pub levelAnswer : Leveled → Outcome ℕ
-levelAnswer (Leveled.Refused n) = refused n
-levelAnswer (Leveled.Of l) = given l
+abbrev pub level_answer : Leveled → Outcome ℕ
+level_answer (Leveled.Refused n) = refused n
+level_answer (Leveled.Of l) = given l

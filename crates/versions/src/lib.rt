@@ -1,8 +1,8 @@
 // RFC 9000 sections 15 and 17.2 and docs/SCOPE.md, "Constants": the versions, and all that differs between them but the labels.
 ghost use Rattle.std.specs.Prelude.{◌≡◌};
 ghost use Rattle.versions.specs.Versions as Constants;
-ghost use Rattle.versions.specs.Versions.{known, typeFor, levelOf};
-ghost use Rattle.versions.specs.Answers.{levelAnswer};
+ghost use Rattle.versions.specs.Versions.{known, type_for, level_of};
+ghost use Rattle.versions.specs.Answers.{level_answer};
 
 use octets::refusal;
 
@@ -53,7 +53,7 @@ pub fn is_known(version: u32) -> bool
 
 // The packet type that says Initial.
 fn initial_type(version: u32) -> u8
-    ensures { result ≡ (Constants.version version).initialType }
+    ensures { result ≡ (Constants.version version).initial_type }
 {
     if version == VERSION_1 {
         return 0;
@@ -63,7 +63,7 @@ fn initial_type(version: u32) -> u8
 
 // The packet type that says 0-RTT.
 fn zero_rtt_type(version: u32) -> u8
-    ensures { result ≡ (Constants.version version).zeroRttType }
+    ensures { result ≡ (Constants.version version).zero_rtt_type }
 {
     if version == VERSION_1 {
         return 1;
@@ -73,7 +73,7 @@ fn zero_rtt_type(version: u32) -> u8
 
 // The packet type that says Handshake.
 fn handshake_type(version: u32) -> u8
-    ensures { result ≡ (Constants.version version).handshakeType }
+    ensures { result ≡ (Constants.version version).handshake_type }
 {
     if version == VERSION_1 {
         return 2;
@@ -83,7 +83,7 @@ fn handshake_type(version: u32) -> u8
 
 // The packet type that a version writes for a level with a long header.
 pub fn type_for(version: u32, level: u8) -> u8
-    ensures { result ≡ typeFor (Constants.version version) level }
+    ensures { result ≡ type_for (Constants.version version) level }
 {
     if level == level::INITIAL {
         return initial_type(version);
@@ -96,7 +96,7 @@ pub fn type_for(version: u32, level: u8) -> u8
 
 // The level that a packet type is of.
 pub fn level_of(version: u32, kind: u8) -> Leveled
-    ensures { levelAnswer result ≡ levelOf (Constants.version version) kind }
+    ensures { level_answer result ≡ level_of (Constants.version version) kind }
 {
     if kind == type_for(version, level::INITIAL) {
         return Leveled::Of(level::INITIAL);
@@ -112,7 +112,7 @@ pub fn level_of(version: u32, kind: u8) -> Leveled
 
 // The packet type that says Retry.
 pub fn retry_type(version: u32) -> u8
-    ensures { result ≡ (Constants.version version).retryType }
+    ensures { result ≡ (Constants.version version).retry_type }
 {
     if version == VERSION_1 {
         return 3;
@@ -132,7 +132,7 @@ pub fn salt(version: u32) -> [u8; 20]
 
 // The key of the Retry tag.
 pub fn retry_key(version: u32) -> [u8; 16]
-    ensures { result ≡ (Constants.version version).retryKey }
+    ensures { result ≡ (Constants.version version).retry_key }
 {
     if version == VERSION_1 {
         return RETRY_KEY_1;
@@ -142,7 +142,7 @@ pub fn retry_key(version: u32) -> [u8; 16]
 
 // The nonce of the Retry tag.
 pub fn retry_nonce(version: u32) -> [u8; 12]
-    ensures { result ≡ (Constants.version version).retryNonce }
+    ensures { result ≡ (Constants.version version).retry_nonce }
 {
     if version == VERSION_1 {
         return RETRY_NONCE_1;

@@ -9,25 +9,25 @@ use lib.Seq.{take-take, take-length}
 use Rattle.octets.specs.Octets.{begun}
 use Rattle.octets.specs.Outcome.{Outcome}
 use Rattle.digits_reading.specs.Digits.{pairs, Decoded}
-use Rattle.terminal_words.specs.Words.{word_of, wordCount}
+use Rattle.terminal_words.specs.Words.{word_of, word_count}
 use Rattle.protection.specs.Protection.{Keys}
 use Rattle.keys.specs.Answers.{Made, InitialKeysMade, KeysInstalled}
 use Rattle.keys.specs.declared.MadeKeys.{MadeKeys}
 use Rattle.keys.specs.declared.Side.{Side}
-use Rattle.wicket_words.specs.Named.{numberAt, versionAt, secretSpelt, initialNamed, installedBy, keysNamed}
+use Rattle.wicket_words.specs.Named.{number_at, version_at, secret_spelt, initial_named, installed_by, keys_named}
 
 module _ (line : List ℕ) (i : ℕ) where
-  pub no-version : 2 ^ 32 ≤ numberAt line i → versionAt line i ≡ 0
-  unfolding versionAt
-  no-version h = rw (le-ltb (numberAt line i) (2 ^ 32) h)
+  pub no-version : 2 ^ 32 ≤ number_at line i → version_at line i ≡ 0
+  unfolding version_at
+  no-version h = rw (le-ltb (number_at line i) (2 ^ 32) h)
 
-  pub its-version : numberAt line i < 2 ^ 32 → versionAt line i ≡ numberAt line i
-  unfolding versionAt
-  its-version h = rw (lt-ltb (numberAt line i) (2 ^ 32) h)
+  pub its-version : number_at line i < 2 ^ 32 → version_at line i ≡ number_at line i
+  unfolding version_at
+  its-version h = rw (lt-ltb (number_at line i) (2 ^ 32) h)
 
 -- what was decoded into 32 zeros is the secret that the digits spell
-pub secret-decoded : {t after : List ℕ} {n : ℕ} → Decoded t (replicate 32 0) after n → after ≡ secretSpelt t
-unfolding secretSpelt
+pub secret-decoded : {t after : List ℕ} {n : ℕ} → Decoded t (replicate 32 0) after n → after ≡ secret_spelt t
+unfolding secret_spelt
 secret-decoded {t = t} {n = n} d =
     let s = pairs t in
     let counted = d.counted in
@@ -57,10 +57,10 @@ made_as {r = r} e made = subst (λ (x : Outcome Keys). Made x r) e made
 
 -- ---- what the second word is, by its words between colons
 module _ (line : List ℕ) {o : List ℕ} (origin : o ≡ word_of 0 line 2) where
-  pub keys-installed : {n s : List ℕ} → wordCount 58 o ≡ 2 → n ≡ word_of 58 o 0 → s ≡ word_of 58 o 1 → installedBy line n s ≡ keysNamed line
-  unfolding keysNamed
-  keys-installed two name secret = rw (sym origin, eq-eqb (wordCount 58 o) 2 two, name, secret)
+  pub keys-installed : {n s : List ℕ} → word_count 58 o ≡ 2 → n ≡ word_of 58 o 0 → s ≡ word_of 58 o 1 → installed_by line n s ≡ keys_named line
+  unfolding keys_named
+  keys-installed two name secret = rw (sym origin, eq-eqb (word_count 58 o) 2 two, name, secret)
 
-  pub keys-initial : (wordCount 58 o ≡ 2 → ⊥) → initialNamed line ≡ keysNamed line
-  unfolding keysNamed
-  keys-initial h = rw (sym origin, ne_eqb (wordCount 58 o) 2 h)
+  pub keys-initial : (word_count 58 o ≡ 2 → ⊥) → initial_named line ≡ keys_named line
+  unfolding keys_named
+  keys-initial h = rw (sym origin, ne_eqb (word_count 58 o) 2 h)

@@ -1,8 +1,8 @@
 // The words of a call that name something of a packet: a version, a side, a level, the greatest number acknowledged, keys.
 ghost use Rattle.std.specs.Prelude.{◌≡◌};
-ghost use Rattle.numbers_shortening.specs.Answers.{acknowledgedOf};
+ghost use Rattle.numbers_shortening.specs.Answers.{acknowledged_of};
 ghost use Rattle.keys.specs.Answers.{Made};
-ghost use Rattle.wicket_words.specs.Named.{versionAt, sideAt, levelNamed, acknowledgedAt, initialNamed, installedBy, installedNamed, keysNamed};
+ghost use Rattle.wicket_words.specs.Named.{version_at, side_at, level_named, acknowledged_at, initial_named, installed_by, installed_named, keys_named};
 
 use console::fields;
 use console::fields::END;
@@ -22,7 +22,7 @@ const HANDSHAKE: u32 = versions::level::HANDSHAKE as u32;
 
 // The version that a word of a call spells, and 0, which is none, where it spells none.
 pub fn version(line: &[u8], index: usize) -> u32
-    ensures { result ≡ versionAt line.now index }
+    ensures { result ≡ version_at line.now index }
 {
     let value = fields::number(line, index);
     if VERSIONS < value {
@@ -33,7 +33,7 @@ pub fn version(line: &[u8], index: usize) -> u32
 
 // The side that a word of a call names.
 pub fn side(line: &[u8], index: usize) -> Side
-    ensures { result ≡ sideAt line.now index }
+    ensures { result ≡ side_at line.now index }
 {
     if same(word(line, index, END), b"server") {
         return Side::Server;
@@ -43,7 +43,7 @@ pub fn side(line: &[u8], index: usize) -> Side
 
 // The level that a word names: Initial, where it names no other.
 fn level(text: &[u8]) -> u32
-    ensures { result ≡ levelNamed text.now }
+    ensures { result ≡ level_named text.now }
 {
     if same(text, b"0-rtt") {
         return ZERO_RTT;
@@ -56,7 +56,7 @@ fn level(text: &[u8]) -> u32
 
 // The greatest number acknowledged, by a word of a call; - is none.
 pub fn acknowledged(line: &[u8], index: usize) -> Acknowledged
-    ensures { acknowledgedOf result ≡ acknowledgedAt line.now index }
+    ensures { acknowledged_of result ≡ acknowledged_at line.now index }
 {
     if same(word(line, index, END), b"-") {
         return Acknowledged::Nothing;
@@ -67,7 +67,7 @@ pub fn acknowledged(line: &[u8], index: usize) -> Acknowledged
 
 // The Initial keys that the first three words behind a command name: VERSION ID client|server.
 pub fn initial_of(line: &[u8]) -> MadeKeys
-    ensures { Made (initialNamed line.now) result }
+    ensures { Made (initial_named line.now) result }
 {
     let mut id = io::buffer();
     let length = fields::bytes(line, 2, &mut id);
@@ -76,7 +76,7 @@ pub fn initial_of(line: &[u8]) -> MadeKeys
 
 // The keys of a level and a secret, for the version and the side that the first and the third word behind a command name.
 fn install(line: &[u8], name: &[u8], digits: &[u8]) -> MadeKeys
-    ensures { Made (installedBy line.now name.now digits.now) result }
+    ensures { Made (installed_by line.now name.now digits.now) result }
 {
     let mut secret = [0u8; 32];
     decode(digits, &mut secret);
@@ -85,14 +85,14 @@ fn install(line: &[u8], name: &[u8], digits: &[u8]) -> MadeKeys
 
 // The keys that the four words of an installing call name: VERSION LEVEL client|server SECRET.
 pub fn installed_of(line: &[u8]) -> MadeKeys
-    ensures { Made (installedNamed line.now) result }
+    ensures { Made (installed_named line.now) result }
 {
     install(line, word(line, 2, END), word(line, 4, END))
 }
 
 // The keys that the first three words behind a command name: VERSION ID|LEVEL:SECRET client|server.
 pub fn keys_of(line: &[u8]) -> MadeKeys
-    ensures { Made (keysNamed line.now) result }
+    ensures { Made (keys_named line.now) result }
 {
     let origin = word(line, 2, END);
     if count(origin, b':') == 2 {

@@ -4,12 +4,12 @@ use mathlib.Core.Path.{ap, ap₂, ◌∙◌}
 use borrow.Author.Rules.{rules}
 use lib.Dec.{eqb}
 use Rattle.aes_state.specs.State.{sum}
-use Rattle.aes_schedule.specs.Expansion.{turned, nextWord}
+use Rattle.aes_schedule.specs.Expansion.{turned, next_word}
 use Rattle.aes_schedule.proofs.next_word.Statement.{statement}
 use Rattle.aes_schedule.proofs.next_word.Tie as tie
 
 returns : tie.Need-returns
-unfolding nextWord
+unfolding next_word
 returns c =
     let b = c.before.before in
     let i = b.before.before.before.args.i in

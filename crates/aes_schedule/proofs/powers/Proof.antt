@@ -1,13 +1,13 @@
 -- The table's rule, by one test over its entries.
 use mathlib.Core.Path.{refl}
-use Rattle.aes_s_box.specs.Field.{xTimes}
-use Rattle.aes_schedule.specs.Expansion.{xPower}
+use Rattle.aes_s_box.specs.Field.{x_times}
+use Rattle.aes_schedule.specs.Expansion.{x_power}
 use Rattle.aes_schedule.proofs.PowerTable.{powered}
 use Rattle.aes_schedule.proofs.powers.Statement.{statement}
 use Rattle.aes_schedule.proofs.powers.Tie as tie
 
 returns : tie.Need-returns
-unfolding xPower xTimes
+unfolding x_power x_times
 returns c = powered _ refl tt
 
 pub powers-spec : {M : Type 1} → statement M

@@ -3,7 +3,7 @@ use mathlib.Core.Path.{sym, ap, ap₂, ◌∙◌}
 use mathlib.Core.Bool.{Bool}
 use borrow.Author.Tests.{eq-eqb, ne_eqb}
 use borrow.Author.Rules.{rules}
-use Rattle.aes_state.specs.State.{sum, subWord}
+use Rattle.aes_state.specs.State.{sum, sub_word}
 use Rattle.aes_schedule.specs.Expansion.{turned}
 use Rattle.aes_schedule.proofs.turned.Statement.{statement}
 use Rattle.aes_schedule.proofs.turned.Tie as tie
@@ -11,7 +11,7 @@ use Rattle.aes_schedule.proofs.turned.Tie as tie
 returns : tie.Need-returns
 returns c =
     let s = c.before.before in
-    c.sum.ensures ∙ ap₂ sum (s.sub_word.ensures ∙ ap subWord s.before.rot-word.ensures) c.before.rcon.ensures
+    c.sum.ensures ∙ ap₂ sum (s.sub_word.ensures ∙ ap sub_word s.before.rot-word.ensures) c.before.rcon.ensures
     ∙ ap (λ (t : Bool). turned t s.before.before.before.args.i s.before.before.before.args.temp) (sym (eq-eqb _ _ s.before.before.if1.true))
 
 returns-2 : tie.Need-returns-2

@@ -4,14 +4,14 @@ use mathlib.Core.Path.{◌≡◌, refl, sym, ◌∙◌}
 use native.Mathlib.Omega.{arith}
 use borrow.Author.Rules.{rules}
 use borrow.Author.Tests.{not-true, not-false}
-use Rattle.terminal_words.specs.Words.{wordsFrom}
-use Rattle.console_calls.specs.Calls.{areRight}
+use Rattle.terminal_words.specs.Words.{words_from}
+use Rattle.console_calls.specs.Calls.{are_right}
 use Rattle.console_calls.proofs.Judging.{right-passed, right-stopped, right_end}
 use Rattle.console_calls.proofs.are_right.Statement.{statement}
 use Rattle.console_calls.proofs.are_right.Tie as tie
 
 abbrev invariant-loop : tie.invariant-loop
-invariant-loop line usage given i₀ i = (1 ≤ i) × (areRight (wordsFrom 0 line i) (wordsFrom 32 usage (i + 1)) ≡ areRight (wordsFrom 0 line 1) (wordsFrom 32 usage 2))
+invariant-loop line usage given i₀ i = (1 ≤ i) × (are_right (words_from 0 line i) (words_from 32 usage (i + 1)) ≡ are_right (words_from 0 line 1) (words_from 32 usage 2))
 
 abbrev decreases-loop : tie.decreases-loop
 decreases-loop line usage given i₀ i = given - i

@@ -3,14 +3,14 @@ use Prim.Native.Nat.{◌-◌}
 use mathlib.Core.Path.{◌≡◌, refl, sym, ◌∙◌}
 use native.Mathlib.Omega.{arith}
 use borrow.Author.Rules.{rules}
-use Rattle.terminal_words.specs.Words.{wordsFrom}
-use Rattle.console_calls.specs.Calls.{usageAmong, usageOf}
+use Rattle.terminal_words.specs.Words.{words_from}
+use Rattle.console_calls.specs.Calls.{usage_among, usage_of}
 use Rattle.console_calls.proofs.Judging.{usage-found, usage-passed, usage-none}
 use Rattle.console_calls.proofs.usage_of.Statement.{statement}
 use Rattle.console_calls.proofs.usage_of.Tie as tie
 
 abbrev invariant-loop : tie.invariant-loop
-invariant-loop manual command lines i₀ i = usageAmong command (wordsFrom 10 manual i) ≡ usageOf manual command
+invariant-loop manual command lines i₀ i = usage_among command (words_from 10 manual i) ≡ usage_of manual command
 
 abbrev decreases-loop : tie.decreases-loop
 decreases-loop manual command lines i₀ i = lines - i

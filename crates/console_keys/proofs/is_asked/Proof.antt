@@ -2,25 +2,25 @@
 use mathlib.Core.Path.{sym, ◌∙◌}
 use borrow.Author.Rules.{rules}
 use Rattle.octets.specs.Text.{ascii}
-use Rattle.console_keys.specs.Words.{isAsked}
+use Rattle.console_keys.specs.Words.{is_asked}
 use Rattle.console_keys.proofs.is_asked.Statement.{statement}
 use Rattle.console_keys.proofs.is_asked.Tie as tie
 
 returns : tie.Need-returns
-unfolding isAsked ascii
+unfolding is_asked ascii
 returns c =
     let level = sym c.before.before.same.ensures ∙ c.before.if1.true in
     rw (level, c.is-level.ensures)
 
 returns-2 : tie.Need-returns-2
-unfolding isAsked ascii
+unfolding is_asked ascii
 returns-2 c =
     let level = sym c.before.before.before.before.before.same.ensures ∙ c.before.before.before.before.if1.false in
     let secret = sym c.before.before.same2.ensures ∙ c.before.if2.true in
     rw (level, secret, c.is-secret.ensures)
 
 returns-3 : tie.Need-returns-3
-unfolding isAsked ascii
+unfolding is_asked ascii
 returns-3 c =
     let level = sym c.before.before.before.before.before.before.before.before.same.ensures ∙ c.before.before.before.before.before.before.before.if1.false in
     let secret = sym c.before.before.before.before.before.same2.ensures ∙ c.before.before.before.before.if2.false in
@@ -28,7 +28,7 @@ returns-3 c =
     rw (level, secret, origin, c.is-origin.ensures)
 
 returns-4 : tie.Need-returns-4
-unfolding isAsked ascii
+unfolding is_asked ascii
 returns-4 c =
     let level = sym c.before.before.before.before.before.before.before.before.same.ensures ∙ c.before.before.before.before.before.before.before.if1.false in
     let secret = sym c.before.before.before.before.before.same2.ensures ∙ c.before.before.before.before.if2.false in

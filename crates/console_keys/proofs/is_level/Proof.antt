@@ -2,25 +2,25 @@
 use mathlib.Core.Path.{sym, ◌∙◌}
 use borrow.Author.Rules.{rules}
 use Rattle.octets.specs.Text.{ascii}
-use Rattle.console_keys.specs.Words.{isLevel}
+use Rattle.console_keys.specs.Words.{is_level}
 use Rattle.console_keys.proofs.is_level.Statement.{statement}
 use Rattle.console_keys.proofs.is_level.Tie as tie
 
 returns : tie.Need-returns
-unfolding isLevel ascii
+unfolding is_level ascii
 returns c =
     let initial = sym c.before.same.ensures ∙ c.if1.true in
     rw initial
 
 returns-2 : tie.Need-returns-2
-unfolding isLevel ascii
+unfolding is_level ascii
 returns-2 c =
     let initial = sym c.before.before.before.before.same.ensures ∙ c.before.before.before.if1.false in
     let early = sym c.before.same2.ensures ∙ c.if2.true in
     rw (initial, early)
 
 returns-3 : tie.Need-returns-3
-unfolding isLevel ascii
+unfolding is_level ascii
 returns-3 c =
     let initial = sym c.before.before.before.before.before.before.before.same.ensures ∙ c.before.before.before.before.before.before.if1.false in
     let early = sym c.before.before.before.before.same2.ensures ∙ c.before.before.before.if2.false in
@@ -28,7 +28,7 @@ returns-3 c =
     rw (initial, early, handshake)
 
 returns-4 : tie.Need-returns-4
-unfolding isLevel ascii
+unfolding is_level ascii
 returns-4 c =
     let initial = sym c.before.before.before.before.before.before.before.before.before.before.before.same.ensures ∙ c.before.before.before.before.before.before.before.before.before.before.if1.false in
     let early = sym c.before.before.before.before.before.before.before.before.same2.ensures ∙ c.before.before.before.before.before.before.before.if2.false in

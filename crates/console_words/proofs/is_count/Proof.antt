@@ -2,25 +2,25 @@
 use mathlib.Core.Path.{sym, ◌∙◌}
 use borrow.Author.Rules.{rules}
 use Rattle.octets.specs.Text.{ascii}
-use Rattle.console_words.specs.Words.{isCount}
+use Rattle.console_words.specs.Words.{is_count}
 use Rattle.console_words.proofs.is_count.Statement.{statement}
 use Rattle.console_words.proofs.is_count.Tie as tie
 
 returns : tie.Need-returns
-unfolding isCount ascii
+unfolding is_count ascii
 returns c =
     let number = sym c.before.same.ensures ∙ c.if1.true in
     rw number
 
 returns-2 : tie.Need-returns-2
-unfolding isCount ascii
+unfolding is_count ascii
 returns-2 c =
     let number = sym c.before.before.before.before.same.ensures ∙ c.before.before.before.if1.false in
     let length = sym c.before.same2.ensures ∙ c.if2.true in
     rw (number, length)
 
 returns-3 : tie.Need-returns-3
-unfolding isCount ascii
+unfolding is_count ascii
 returns-3 c =
     let number = sym c.before.before.before.before.before.before.before.same.ensures ∙ c.before.before.before.before.before.before.if1.false in
     let length = sym c.before.before.before.before.same2.ensures ∙ c.before.before.before.if2.false in
@@ -28,7 +28,7 @@ returns-3 c =
     rw (number, length, expected)
 
 returns-4 : tie.Need-returns-4
-unfolding isCount ascii
+unfolding is_count ascii
 returns-4 c =
     let number = sym c.before.before.before.before.before.before.before.before.before.same.ensures ∙ c.before.before.before.before.before.before.before.before.if1.false in
     let length = sym c.before.before.before.before.before.before.same2.ensures ∙ c.before.before.before.before.before.if2.false in

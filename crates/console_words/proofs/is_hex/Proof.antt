@@ -3,13 +3,13 @@ use mathlib.Core.Path.{sym, ◌∙◌}
 use native.Mathlib.Omega.{arith}
 use borrow.Author.Rules.{rules}
 use Rattle.octets.specs.Text.{ascii}
-use Rattle.console_words.specs.Words.{isHex}
+use Rattle.console_words.specs.Words.{is_hex}
 use Rattle.console_words.proofs.Hex.{hex-not, hex-odd, hex-even}
 use Rattle.console_words.proofs.is_hex.Statement.{statement}
 use Rattle.console_words.proofs.is_hex.Tie as tie
 
 returns : tie.Need-returns
-unfolding isHex ascii
+unfolding is_hex ascii
 returns c = rw (sym c.before.same.ensures ∙ c.if1.true)
 
 returns-2 : tie.Need-returns-2

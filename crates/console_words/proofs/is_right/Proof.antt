@@ -2,25 +2,25 @@
 use mathlib.Core.Path.{sym, ◌∙◌}
 use borrow.Author.Rules.{rules}
 use Rattle.octets.specs.Text.{ascii}
-use Rattle.console_words.specs.Words.{isRight}
+use Rattle.console_words.specs.Words.{is_right}
 use Rattle.console_words.proofs.is_right.Statement.{statement}
 use Rattle.console_words.proofs.is_right.Tie as tie
 
 returns : tie.Need-returns
-unfolding isRight ascii
+unfolding is_right ascii
 returns c =
     let version = sym c.before.before.same.ensures ∙ c.before.if1.true in
     rw (version, c.is_number.ensures)
 
 returns-2 : tie.Need-returns-2
-unfolding isRight ascii
+unfolding is_right ascii
 returns-2 c =
     let version = sym c.before.before.before.before.before.same.ensures ∙ c.before.before.before.before.if1.false in
     let side = sym c.before.before.same2.ensures ∙ c.before.if2.true in
     rw (version, side, c.is-side.ensures)
 
 returns-3 : tie.Need-returns-3
-unfolding isRight ascii
+unfolding is_right ascii
 returns-3 c =
     let version = sym c.before.before.before.before.before.before.before.before.before.before.same.ensures ∙ c.before.before.before.before.before.before.before.before.before.if1.false in
     let side = sym c.before.before.before.before.before.before.before.same2.ensures ∙ c.before.before.before.before.before.before.if2.false in
@@ -29,7 +29,7 @@ returns-3 c =
     rw (version, side, acknowledged, none)
 
 returns-4 : tie.Need-returns-4
-unfolding isRight ascii
+unfolding is_right ascii
 returns-4 c =
     let version = sym c.before.before.before.before.before.before.before.before.before.before.before.same.ensures ∙ c.before.before.before.before.before.before.before.before.before.before.if1.false in
     let side = sym c.before.before.before.before.before.before.before.before.same2.ensures ∙ c.before.before.before.before.before.before.before.if2.false in
@@ -38,7 +38,7 @@ returns-4 c =
     rw (version, side, acknowledged, none, c.is-number2.ensures)
 
 returns-5 : tie.Need-returns-5
-unfolding isRight ascii
+unfolding is_right ascii
 returns-5 c =
     let version = sym c.before.before.before.before.before.before.before.before.before.before.same.ensures ∙ c.before.before.before.before.before.before.before.before.before.if1.false in
     let side = sym c.before.before.before.before.before.before.before.same2.ensures ∙ c.before.before.before.before.before.before.if2.false in
@@ -47,7 +47,7 @@ returns-5 c =
     rw (version, side, acknowledged, count, c.is-number3.ensures)
 
 returns-6 : tie.Need-returns-6
-unfolding isRight ascii
+unfolding is_right ascii
 returns-6 c =
     let version = sym c.before.before.before.before.before.before.before.before.before.before.before.before.same.ensures ∙ c.before.before.before.before.before.before.before.before.before.before.before.if1.false in
     let side = sym c.before.before.before.before.before.before.before.before.before.same2.ensures ∙ c.before.before.before.before.before.before.before.before.if2.false in
@@ -57,7 +57,7 @@ returns-6 c =
     rw (version, side, acknowledged, count, file)
 
 returns-7 : tie.Need-returns-7
-unfolding isRight ascii
+unfolding is_right ascii
 returns-7 c =
     let version = sym c.before.before.before.before.before.before.before.before.before.before.before.before.before.same.ensures ∙ c.before.before.before.before.before.before.before.before.before.before.before.before.if1.false in
     let side = sym c.before.before.before.before.before.before.before.before.before.before.same2.ensures ∙ c.before.before.before.before.before.before.before.before.before.if2.false in

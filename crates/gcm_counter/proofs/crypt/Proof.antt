@@ -3,7 +3,7 @@ use Rattle.std.proofs.Common.{◌≡◌, ℕ, ◌+◌, ◌-◌, ◌≤◌, List,
 use Rattle.octets.specs.Octets.{bytes, xor, laid}
 use Rattle.octets.proofs.Parts.{part_length}
 use Rattle.gcm_counter.proofs.Counting.{first_block, block-after-next, masks-length, crypt-turn, crypt-end}
-use Rattle.gcm_counter.specs.Counter.{gctr, streamBy}
+use Rattle.gcm_counter.specs.Counter.{gctr, stream_by}
 use Rattle.gcm_counter.proofs.crypt.Statement.{statement}
 use Rattle.gcm_counter.proofs.crypt.Tie as tie
 
@@ -11,13 +11,13 @@ abbrev invariant-loop : tie.invariant-loop
 invariant-loop schedule nonce source buffer₀ at mixing sbox front count₀ i₀ buffer count i =
     (i ≤ length source)
     × (length buffer ≡ length buffer₀)
-    × (laid buffer (at + i) (gctr schedule (front ++ bytes 4 count) (drop i source)) ≡ laid buffer₀ at (streamBy schedule nonce source))
+    × (laid buffer (at + i) (gctr schedule (front ++ bytes 4 count) (drop i source)) ≡ laid buffer₀ at (stream_by schedule nonce source))
 
 abbrev decreases-loop : tie.decreases-loop
 decreases-loop schedule nonce source buffer₀ at mixing sbox front count₀ i₀ buffer count i = length source - i
 
 loop-holds : tie.Need-loop-init invariant-loop decreases-loop
-unfolding streamBy
+unfolding stream_by
 loop-holds c =
     let a = c.before.before.before.before.before.args in
     let none : a.at + 0 ≡ a.at = omega arith in

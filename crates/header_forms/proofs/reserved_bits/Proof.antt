@@ -3,7 +3,7 @@ use Prim.Native.Nat.{ℕ, ◌/◌, ◌%◌, ◌<◌}
 use mathlib.Core.Path.{sym, ap, subst}
 use borrow.Author.Rules.{rules}
 use lib.Pow.{pow_pos}
-use Rattle.header_forms.specs.Forms.{reservedBits}
+use Rattle.header_forms.specs.Forms.{reserved_bits}
 use Rattle.header_forms.proofs.reserved_bits.Statement.{statement}
 use Rattle.header_forms.proofs.reserved_bits.Tie as tie
 
@@ -11,7 +11,7 @@ div-result : tie.Need-nonzero-div-result
 div-result c = subst (λ (n : ℕ). 0 < n) (sym c.values-below-reserved.ensures) (pow_pos _)
 
 returns : tie.Need-returns
-unfolding reservedBits
+unfolding reserved_bits
 returns c = ap (λ (n : ℕ). c.before.args.first / n % 4) c.values-below-reserved.ensures
 
 pub reserved-bits-spec : {M : Type 1} → statement M

@@ -5,9 +5,9 @@ use borrow.Author.Rules.{rules}
 use native.Mathlib.Omega.{arith}
 use lib.ListN.{length-append}
 use Rattle.octets.proofs.Buffers.{goes_on}
-use Rattle.header_forms.specs.Rules.{inForce}
-use Rattle.header_writing.specs.Written.{longFields, tokenBytes, packetFields}
-use Rattle.header_writing.specs.Answers.{tokenOf}
+use Rattle.header_forms.specs.Rules.{in_force}
+use Rattle.header_writing.specs.Written.{long_fields, token_bytes, packet_fields}
+use Rattle.header_writing.specs.Answers.{token_of}
 use Rattle.header_writing.proofs.Forms.{long-length, token-size}
 use Rattle.header_writing.proofs.write_fields.Statement.{statement}
 use Rattle.header_writing.proofs.write_fields.Tie as tie
@@ -52,16 +52,16 @@ add-result c =
     omega (arith, l.write-long.ensures.ends, c.before.before.before.before.before.token-form.ensures, c.length-form.ensures, l.before.before.before.before.before.before.requires.room)
 
 returns : tie.Need-returns
-unfolding packetFields
+unfolding packet_fields
 returns c =
     let l = c.before.before.before.before.before.before.before.before.before.before.before.before in
     let a = l.before.before.before.before.before.before.args in
     let begun = long-length a.version a.destination.now a.source.now in
     let size = token-size a.field a.token.now in
     let out = a.buffer.now in
-    let token = tokenBytes (tokenOf a.field a.token.now) in
-    let front : List ℕ = a.first ∷ longFields a.version a.destination.now a.source.now in
-    let counted = inForce.lengthForm a.counted in
+    let token = token_bytes (token_of a.field a.token.now) in
+    let front : List ℕ = a.first ∷ long_fields a.version a.destination.now a.source.now in
+    let counted = in_force.length_form a.counted in
     let begins = l.write-long.ensures in
     let form = c.before.before.before.before.before.token-form.ensures in
     let to-length = length-append front token in

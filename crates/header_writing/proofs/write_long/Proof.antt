@@ -8,19 +8,19 @@ use lib.ListN.{length, length-append}
 use Rattle.octets.specs.Octets.{bytes}
 use Rattle.octets.proofs.Numbers.{bytes-length}
 use Rattle.octets.proofs.Buffers.{goes_on}
-use Rattle.header_writing.specs.Written.{withLength, longFields}
+use Rattle.header_writing.specs.Written.{with_length, long_fields}
 use Rattle.header_writing.proofs.write_long.Statement.{statement}
 use Rattle.header_writing.proofs.write_long.Tie as tie
 
 returns : tie.Need-returns
-unfolding longFields
+unfolding long_fields
 returns c =
     let a = c.before.before.before.before.before.before.before.before.before.before.before.before.before.before.before.before.before.before.before.args in
     let out = a.buffer.now in
     let first : List ℕ = a.first ∷ [] in
     let version = bytes 4 a.version in
-    let destination = withLength a.destination.now in
-    let source = withLength a.source.now in
+    let destination = with_length a.destination.now in
+    let source = with_length a.source.now in
     let four = bytes-length 4 a.version in
     let before = length-append version destination in
     let all = length-append (version ++ destination) source in

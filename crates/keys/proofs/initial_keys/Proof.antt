@@ -4,7 +4,7 @@ use borrow.Author.Rules.{rules}
 use borrow.Author.Tests.{not-true, not-false}
 use native.Mathlib.Omega.{arith}
 use Rattle.versions.specs.Levels.{initial}
-use Rattle.keys_expansion.specs.Expansion.{keysFrom}
+use Rattle.keys_expansion.specs.Expansion.{keys_from}
 use Rattle.keys.specs.Answers.{side_of}
 use Rattle.keys.proofs.Made.{unknown-version, long-id, keys-made}
 use Rattle.keys.proofs.initial_keys.Statement.{statement}
@@ -26,7 +26,7 @@ returns-3 : tie.Need-returns-3
 returns-3 c =
     let a = c.before.before.before.before.before.before.before.args in
     rw (keys-made a.number a.destination.now (side_of a.side) (sym c.before.before.before.before.before.is_Known.ensures ∙ not-false _ c.before.before.before.before.if1.false) (omega arith))
-    (record { refusal = refl; keys = c.keys_from.ensures ∙ ap (keysFrom a.number initial) c.before.before.secret-of.ensures })
+    (record { refusal = refl; keys = c.keys_from.ensures ∙ ap (keys_from a.number initial) c.before.before.secret-of.ensures })
 
 pub initial-keys-spec : {M : Type 1} → statement M
 initial-keys-spec =

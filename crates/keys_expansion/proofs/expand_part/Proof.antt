@@ -5,7 +5,7 @@ use mathlib.Core.List.{List}
 use borrow.Author.Rules.{rules}
 use native.Mathlib.Omega.{arith}
 use lib.ListN.{length, take}
-use Rattle.hkdf.specs.Hkdf.{expandLabel}
+use Rattle.hkdf.specs.Hkdf.{expand_label}
 use Rattle.keys_expansion.proofs.expand_part.Statement.{statement}
 use Rattle.keys_expansion.proofs.expand_part.Tie as tie
 
@@ -15,7 +15,7 @@ returns c =
     let label = c.before.before.before.before.before.before.before.label_of in
     let counted : label.result.1 - 0 ≡ label.result.1 = omega arith in
     let text = ap (λ (n : ℕ). take n label.result.0) counted ∙ label.ensures.2 in
-    c.before.before.expand-label.ensures ∙ ap (λ (l : List ℕ). expandLabel a.secret.now l (length a.out.now)) text
+    c.before.before.expand-label.ensures ∙ ap (λ (l : List ℕ). expand_label a.secret.now l (length a.out.now)) text
 
 pub expand-part-spec : {M : Type 1} → statement M
 expand-part-spec =

@@ -6,7 +6,7 @@ use native.Mathlib.Omega.{arith}
 use lib.ListN.{take, replicate, length-take}
 use lib.Seq.{length-take-le}
 use Rattle.header_forms.specs.Answers.{form_of}
-use Rattle.protection.specs.Protection.{onFirst}
+use Rattle.protection.specs.Protection.{on_first}
 use Rattle.protection.specs.KeyRecord.{keys_of}
 use Rattle.open_unmasking.proofs.Masking.{short-taken, unmasks}
 use Rattle.open_unmasking.proofs.unmask.Statement.{statement}
@@ -19,7 +19,7 @@ read-short-requires : tie.Need-read-short-requires
 read-short-requires c κs = simp length-take (omega (arith, c.before.before.copy-masked.auto.0))
 
 returns : tie.Need-returns
-unfolding onFirst
+unfolding on_first
 returns c =
     let f = c.before.before.before.before.before.before.before.before in
     let m = f.before.before in

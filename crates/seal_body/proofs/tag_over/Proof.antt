@@ -6,7 +6,7 @@ use native.Mathlib.Omega.{arith}
 use lib.ListN.{take, length-take, length-drop}
 use lib.Seq.{length-take-le}
 use Rattle.octets.specs.Octets.{part}
-use Rattle.gcm.specs.Gcm.{tagBy}
+use Rattle.gcm.specs.Gcm.{tag_by}
 use Rattle.seal_body.proofs.Bodies.{one_piece}
 use Rattle.seal_body.proofs.tag_over.Statement.{statement}
 use Rattle.seal_body.proofs.tag_over.Tie as tie
@@ -22,7 +22,7 @@ returns c =
     let a = c.before.before.before.before.before.before.before.args in
     c.make-tag.ensures
     ∙ one_piece a.schedule.now _ a.nonce.now (take a.at a.packet.now) (part a.packet.now a.at (a.end - a.at))
-    ∙ ap (λ (h : ℕ). tagBy a.schedule.now h a.nonce.now (take a.at a.packet.now) (part a.packet.now a.at (a.end - a.at))) c.before.before.before.before.before.hash-key.ensures
+    ∙ ap (λ (h : ℕ). tag_by a.schedule.now h a.nonce.now (take a.at a.packet.now) (part a.packet.now a.at (a.end - a.at))) c.before.before.before.before.before.hash-key.ensures
 
 pub tag-over-spec : {M : Type 1} → statement M
 tag-over-spec =

@@ -3,7 +3,7 @@ use Prim.Native.Nat.{ℕ, ◌≤◌}
 use mathlib.Core.Path.{sym, subst}
 use borrow.Author.Rules.{rules}
 use native.Mathlib.Omega.{arith}
-use Rattle.header_writing.specs.Written.{firstByte}
+use Rattle.header_writing.specs.Written.{first_byte}
 use Rattle.versions.proofs.Versions.{type-fits}
 use Rattle.seal_header.proofs.Headers.{fields-end, header-written}
 use Rattle.seal_header.proofs.write_header.Statement.{statement}
@@ -24,7 +24,7 @@ store-requires c κs =
     (omega arith, omega (arith, fields-end _ _ _ _ _ _ written.ensures.ends, written.auto))
 
 returns : tie.Need-returns
-unfolding firstByte
+unfolding first_byte
 returns c =
     let type = c.before.before.before.before.before.before.before.before.type-for.ensures in
     header-written _ _ _ _ _ _ _ _ _ c.before.before.before.before.before.before.write-fields.ensures c.before.before.store.ensures

@@ -6,7 +6,7 @@ use native.Mathlib.Omega.{arith}
 use lib.ListN.{take, replicate}
 use lib.Seq.{length-take-le}
 use Rattle.header_forms.specs.Answers.{form_of}
-use Rattle.protection.specs.Protection.{onFirst}
+use Rattle.protection.specs.Protection.{on_first}
 use Rattle.seal_masking.proofs.Masking.{number-taken, rest-length, mask-laid}
 use Rattle.seal_masking.proofs.protect.Statement.{statement}
 use Rattle.seal_masking.proofs.protect.Tie as tie
@@ -23,7 +23,7 @@ copy-masked-requires c κs =
     (omega (arith, c.before.before.before.before.before.before.put.auto.0), omega arith)
 
 returns : tie.Need-returns
-unfolding onFirst
+unfolding on_first
 returns c =
     let k = c.before.before.before.before.before.before.before.before.before.before.before.before.before.before in
     let a = k.before.before.before.before.before.args in

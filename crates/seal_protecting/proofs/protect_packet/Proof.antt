@@ -6,9 +6,9 @@ use borrow.Author.Rules.{rules}
 use lib.ListN.{take}
 use Rattle.octets.specs.Octets.{laid}
 use Rattle.header_forms.specs.Answers.{form_of}
-use Rattle.protection.specs.Clear.{bodyWith}
+use Rattle.protection.specs.Clear.{body_with}
 use Rattle.protection.specs.KeyRecord.{keys_of}
-use Rattle.protection.specs.AesGcm.{aesGcm}
+use Rattle.protection.specs.AesGcm.{aes_gcm}
 use Rattle.seal_protecting.specs.Protecting.{clear}
 use Rattle.seal_protecting.proofs.Protecting.{protected-laid}
 use Rattle.seal_protecting.proofs.protect_packet.Statement.{statement}
@@ -22,7 +22,7 @@ returns c =
     let at = a.place + a.count in
     let one = a.buffer.now in
     let body = w.write-body.ensures
-    ∙ ap (λ (once : List ℕ). laid one at (bodyWith aesGcm a.keys.key once (take at one) a.payload.now)) w.before.before.before.before.nonce-of.ensures in
+    ∙ ap (λ (once : List ℕ). laid one at (body_with aes_gcm a.keys.key once (take at one) a.payload.now)) w.before.before.before.before.nonce-of.ensures in
     λ first fields out here begins. protected-laid (form_of a.form) (keys_of a.keys) (clear a.number a.count a.payload.now first fields) out one _ _ _ a.place s.requires.enough here begins
     body c.before.before.before.before.mask-of.ensures c.before.before.protect.ensures
 

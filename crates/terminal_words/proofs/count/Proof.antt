@@ -5,19 +5,19 @@ use mathlib.Core.Path.{◌≡◌, refl, sym, ap, ◌∙◌}
 use native.Mathlib.Omega.{arith}
 use borrow.Author.Rules.{rules}
 use lib.ListN.{length}
-use Rattle.terminal_words.specs.Words.{wordsUpTo}
+use Rattle.terminal_words.specs.Words.{words_up_to}
 use Rattle.terminal_words.proofs.Separators.{count-one, count_none}
 use Rattle.terminal_words.proofs.count.Statement.{statement}
 use Rattle.terminal_words.proofs.count.Tie as tie
 
 abbrev invariant-loop : tie.invariant-loop
-invariant-loop text separator words₀ at₀ words at = (at ≤ length text) × (words ≤ at) × (words ≡ wordsUpTo separator text at)
+invariant-loop text separator words₀ at₀ words at = (at ≤ length text) × (words ≤ at) × (words ≡ words_up_to separator text at)
 
 abbrev decreases-loop : tie.decreases-loop
 decreases-loop text separator words₀ at₀ words at = length text - at
 
 loop-holds : tie.Need-loop-init invariant-loop decreases-loop
-unfolding wordsUpTo
+unfolding words_up_to
 loop-holds c = (omega arith, omega arith, refl)
 
 loop-again : tie.Need-loop-preserved invariant-loop decreases-loop
@@ -33,7 +33,7 @@ returns : tie.Need-returns invariant-loop decreases-loop
 returns c =
     let l = c.before.loop in
     let end : l.at ≡ length c.before.before.before.args.text.now = omega arith in
-    l.invariant.2 ∙ ap (wordsUpTo _ _) end
+    l.invariant.2 ∙ ap (words_up_to _ _) end
 
 pub count_spec : {M : Type 1} → statement M
 count_spec =

@@ -6,7 +6,7 @@ use native.Mathlib.Omega.{arith}
 use borrow.Author.Rules.{rules}
 use borrow.Author.Tests.{eq-eqb, ne_eqb}
 use lib.ListN.{length}
-use Rattle.terminal_words.specs.Words.{isNot, past_at}
+use Rattle.terminal_words.specs.Words.{is_not, past_at}
 use Rattle.terminal_words.proofs.Separators.{until-turn, until-stops, until-ends}
 use Rattle.terminal_words.proofs.past_separators.Statement.{statement}
 use Rattle.terminal_words.proofs.past_separators.Tie as tie
@@ -21,19 +21,19 @@ returns : tie.Need-returns invariant-loop decreases-loop
 returns c =
     let l = c.before.before.before.loop in
     let a = c.before.before.before.before.args in
-    (omega arith, omega arith, omega (arith, until-stops (isNot a.separator) a.text.now l.at (omega arith) (ap not (ne_eqb _ _ c.if1.true))))
+    (omega arith, omega arith, omega (arith, until-stops (is_not a.separator) a.text.now l.at (omega arith) (ap not (ne_eqb _ _ c.if1.true))))
 
 loop-again : tie.Need-loop-preserved invariant-loop decreases-loop
 loop-again c =
     let l = c.before.before.before.loop in
     let a = c.before.before.before.before.args in
-    (omega arith, omega arith, omega (arith, until-turn (isNot a.separator) a.text.now l.at (omega arith) (ap not (eq-eqb _ _ c.if1.false))))
+    (omega arith, omega arith, omega (arith, until-turn (is_not a.separator) a.text.now l.at (omega arith) (ap not (eq-eqb _ _ c.if1.false))))
 
 returns-2 : tie.Need-returns-2 invariant-loop decreases-loop
 returns-2 c =
     let l = c.before.loop in
     let a = c.before.before.args in
-    (omega arith, omega arith, omega (arith, until-ends (isNot a.separator) a.text.now l.at (omega arith)))
+    (omega arith, omega arith, omega (arith, until-ends (is_not a.separator) a.text.now l.at (omega arith)))
 
 pub past-separators-spec : {M : Type 1} → statement M
 past-separators-spec =

@@ -7,11 +7,11 @@ use Rattle.versions.proofs.handshake_type.Tie as tie
 
 returns : tie.Need-returns
 unfolding version1
-returns c = ap (λ (v : Version). v.handshakeType) (sym (version-one _ c.if1.true))
+returns c = ap (λ (v : Version). v.handshake_type) (sym (version-one _ c.if1.true))
 
 returns-2 : tie.Need-returns-2
 unfolding draft2
-returns-2 c = ap (λ (v : Version). v.handshakeType) (sym (version-other _ c.if1.false))
+returns-2 c = ap (λ (v : Version). v.handshake_type) (sym (version-other _ c.if1.false))
 
 pub handshake-type-spec : {M : Type 1} → statement M
 handshake-type-spec = tie.close (tie.spec returns returns-2)

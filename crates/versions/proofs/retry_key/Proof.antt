@@ -8,11 +8,11 @@ use Rattle.versions.proofs.retry_key.Tie as tie
 
 returns : tie.Need-returns
 unfolding version1 bytes
-returns c = ap (λ (v : Version). v.retryKey) (sym (version-one _ c.if1.true))
+returns c = ap (λ (v : Version). v.retry_key) (sym (version-one _ c.if1.true))
 
 returns-2 : tie.Need-returns-2
 unfolding draft2 bytes
-returns-2 c = ap (λ (v : Version). v.retryKey) (sym (version-other _ c.if1.false))
+returns-2 c = ap (λ (v : Version). v.retry_key) (sym (version-other _ c.if1.false))
 
 pub retry-key-spec : {M : Type 1} → statement M
 retry-key-spec = tie.close (tie.spec returns returns-2)

@@ -8,11 +8,11 @@ use Rattle.versions.proofs.retry_nonce.Tie as tie
 
 returns : tie.Need-returns
 unfolding version1 bytes
-returns c = ap (λ (v : Version). v.retryNonce) (sym (version-one _ c.if1.true))
+returns c = ap (λ (v : Version). v.retry_nonce) (sym (version-one _ c.if1.true))
 
 returns-2 : tie.Need-returns-2
 unfolding draft2 bytes
-returns-2 c = ap (λ (v : Version). v.retryNonce) (sym (version-other _ c.if1.false))
+returns-2 c = ap (λ (v : Version). v.retry_nonce) (sym (version-other _ c.if1.false))
 
 pub retry-nonce-spec : {M : Type 1} → statement M
 retry-nonce-spec = tie.close (tie.spec returns returns-2)

@@ -7,11 +7,11 @@ use Rattle.versions.proofs.retry_type.Tie as tie
 
 returns : tie.Need-returns
 unfolding version1
-returns c = ap (λ (v : Version). v.retryType) (sym (version-one _ c.if1.true))
+returns c = ap (λ (v : Version). v.retry_type) (sym (version-one _ c.if1.true))
 
 returns-2 : tie.Need-returns-2
 unfolding draft2
-returns-2 c = ap (λ (v : Version). v.retryType) (sym (version-other _ c.if1.false))
+returns-2 c = ap (λ (v : Version). v.retry_type) (sym (version-other _ c.if1.false))
 
 pub retry-type-spec : {M : Type 1} → statement M
 retry-type-spec = tie.close (tie.spec returns returns-2)

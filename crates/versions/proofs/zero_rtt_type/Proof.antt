@@ -7,11 +7,11 @@ use Rattle.versions.proofs.zero_rtt_type.Tie as tie
 
 returns : tie.Need-returns
 unfolding version1
-returns c = ap (λ (v : Version). v.zeroRttType) (sym (version-one _ c.if1.true))
+returns c = ap (λ (v : Version). v.zero_rtt_type) (sym (version-one _ c.if1.true))
 
 returns-2 : tie.Need-returns-2
 unfolding draft2
-returns-2 c = ap (λ (v : Version). v.zeroRttType) (sym (version-other _ c.if1.false))
+returns-2 c = ap (λ (v : Version). v.zero_rtt_type) (sym (version-other _ c.if1.false))
 
 pub zero-rtt-type-spec : {M : Type 1} → statement M
 zero-rtt-type-spec = tie.close (tie.spec returns returns-2)

@@ -4,12 +4,12 @@ use mathlib.Core.Path.{ap, ◌∙◌}
 use Prim.Native.Nat.{ℕ}
 use borrow.Author.Rules.{rules}
 use Rattle.digits_numbers.specs.Numbers.{number_of}
-use Rattle.console.specs.Fields.{valueOr0}
+use Rattle.console.specs.Fields.{value_or0}
 use Rattle.console.proofs.fields.number.Statement.{statement}
 use Rattle.console.proofs.fields.number.Tie as tie
 
 returns : tie.Need-returns
-returns c = c.value.ensures ∙ ap (λ (t : List ℕ). valueOr0 (number_of t)) c.before.word.ensures
+returns c = c.value.ensures ∙ ap (λ (t : List ℕ). value_or0 (number_of t)) c.before.word.ensures
 
 pub number-spec : {M : Type 1} → statement M
 number-spec =

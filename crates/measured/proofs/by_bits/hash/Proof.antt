@@ -7,12 +7,12 @@ use lib.Bits.{bit_xor}
 use lib.ListN.{length}
 use Rattle.gcm_field.specs.Field.{◌•◌, num}
 use Rattle.gcm_hash.specs.Hash.{ghash}
-use Rattle.measured.proofs.ByBits.{onFrom, hash-start, hash-turn, hash-end}
+use Rattle.measured.proofs.ByBits.{on_from, hash-start, hash-turn, hash-end}
 use Rattle.measured.proofs.by_bits.hash.Statement.{statement}
 use Rattle.measured.proofs.by_bits.hash.Tie as tie
 
 abbrev invariant-loop : tie.invariant-loop
-invariant-loop h source y₀ at₀ y at = (at ≤ length source) × (onFrom (num h) (num y) source at ≡ ghash (num h) source)
+invariant-loop h source y₀ at₀ y at = (at ≤ length source) × (on_from (num h) (num y) source at ≡ ghash (num h) source)
 
 abbrev decreases-loop : tie.decreases-loop
 decreases-loop h source y₀ at₀ y at = length source - at
