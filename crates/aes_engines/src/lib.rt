@@ -1,4 +1,5 @@
 // Both engines of AES-128, on bytes and on words: for every key and every block they give the same.
+#![tactic(auto)]
 ghost use Rattle.std.specs.Prelude.{◌≡◌};
 ghost use Rattle.aes_byte_rounds.specs.Cipher.{cipher};
 

@@ -1,4 +1,6 @@
 // The S-box (FIPS 197 section 5.1.1), as a table and at a byte.
+#![tactic(auto)]
+
 ghost use Rattle.std.specs.Prelude.{◌≡◌};
 ghost use Rattle.aes_s_box.specs.Box.{Box, s_box};
 

@@ -1,4 +1,6 @@
 // The shifting of a state's rows (FIPS 197 section 5.1.2).
+#![tactic(auto)]
+
 ghost use Rattle.std.specs.Prelude.{◌≡◌};
 ghost use Rattle.aes_shifting.specs.Shifting.{shift_rows};
 

@@ -1,4 +1,6 @@
 // The state, four rows of four bytes, and the steps of a round that go byte by byte (FIPS 197 sections 3.4, 5.1.1 and 5.1.4).
+#![tactic(auto)]
+
 ghost use Rattle.std.specs.Prelude.{◌≡◌, length};
 ghost use Rattle.aes_s_box.specs.Box.{Box};
 ghost use Rattle.aes_state.specs.State.{sum, sub_word, input, output, sub_bytes, add_round_key};

@@ -1,4 +1,5 @@
 // A word of a call, judged by the name that the manual has for it.
+#![tactic(auto)]
 ghost use Rattle.std.specs.Prelude.{◌≡◌};
 ghost use Rattle.console_words.specs.Words.{is_hex, is_number, is_side, is_count, is_right};
 

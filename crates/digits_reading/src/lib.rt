@@ -1,4 +1,6 @@
 // Digits read: the value of each, how many stand at a text's start, and the bytes that pairs of hex digits spell.
+#![tactic(auto)]
+
 ghost use Rattle.std.specs.Prelude.{◌≡◌, ◌≤◌, min, length};
 ghost use Rattle.io.specs.Counts.{IsPrefixLen};
 ghost use Rattle.digits_reading.specs.Digits.{value_of, run, Decoded};

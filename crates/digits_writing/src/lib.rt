@@ -1,4 +1,5 @@
 // Digits written: the hex digits of bytes.
+#![tactic(auto)]
 ghost use Rattle.std.specs.Prelude.{◌≡◌, ◌<◌};
 ghost use Rattle.io.specs.Counts.{IsPrefixLen};
 ghost use Rattle.digits_writing.specs.Hex.{digit_of, Encoded};

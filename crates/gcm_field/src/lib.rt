@@ -1,4 +1,6 @@
 // Blocks, their sum, and the steps of their product (SP 800-38D section 6.3).
+#![tactic(auto)]
+
 ghost use Rattle.std.specs.Prelude.{◌≡◌, ◌*◌, ◌^◌, ◌<◌};
 ghost use Rattle.std.specs.Int.Bits.{bit_xor};
 ghost use Rattle.gcm_field.specs.Field.{next, num, nexts};

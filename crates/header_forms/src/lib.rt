@@ -1,4 +1,5 @@
 // The first byte, by the form of the header: RFC 9000 section 17.2, and RFC 9001 section 5.4.1 for what is masked of it.
+#![tactic(auto)]
 ghost use Rattle.std.specs.Prelude.{◌≡◌, ◌^◌};
 ghost use Rattle.header_forms.specs.Rules.{in_force};
 ghost use Rattle.header_forms.specs.Forms.{masked_first, reserved_bits, formed};

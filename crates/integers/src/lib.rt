@@ -1,4 +1,6 @@
 // RFC 9000 section 16: variable-length integers.
+#![tactic(auto)]
+
 ghost use Rattle.integers.specs.Answers.{ReadInteger};
 
 use octets::refusal;

@@ -1,4 +1,5 @@
 // RFC 9000 appendix A.3: the full number that a short one stands for.
+#![tactic(auto)]
 ghost use Rattle.std.specs.Prelude.{◌≡◌, ◌≤◌, ◌<◌};
 ghost use Rattle.numbers.specs.Numbers.{numbers, window};
 ghost use Rattle.numbers_recovery.specs.Recovery.{decoded};

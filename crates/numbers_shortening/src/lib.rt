@@ -1,4 +1,5 @@
 // RFC 9000 section 17.1: the number that is sent, in the fewest bytes that tell it apart.
+#![tactic(auto)]
 ghost use Rattle.std.specs.Prelude.{◌≡◌};
 ghost use Rattle.numbers_shortening.specs.Shortening.{coverable, gap};
 ghost use Rattle.numbers_shortening.specs.Answers.{acknowledged_of, gap_answer, SmallestLength, Shorten};

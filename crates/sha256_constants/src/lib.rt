@@ -1,4 +1,6 @@
 // SHA-256's constants (FIPS 180-4 sections 4.2.2 and 5.3.3).
+#![tactic(auto)]
+
 ghost use Rattle.std.specs.Prelude.{◌≡◌};
 ghost use Rattle.sha256_constants.specs.Constants.{K, H⁰};
 

@@ -1,4 +1,6 @@
 // The padding of a message (FIPS 180-4 section 5.1.1).
+#![tactic(auto)]
+
 ghost use Rattle.std.specs.Prelude.{◌≡◌, ◌++◌, ◌+◌, ◌*◌, ◌%◌, ◌^◌, ◌≤◌, ◌<◌, length, replicate};
 ghost use Rattle.octets.specs.Octets.{Begins};
 ghost use Rattle.sha256_padding.specs.Padding.{padding};

@@ -1,4 +1,6 @@
 // The 64 rounds of a block (FIPS 180-4 section 6.2.2 steps 2 to 4).
+#![tactic(auto)]
+
 ghost use Rattle.std.specs.Prelude.{◌≡◌, slice_index};
 ghost use Rattle.sha256_constants.specs.Constants.{K};
 ghost use Rattle.sha256_rounds.specs.Rounds.{T₁, T₂, round, rounds, added};

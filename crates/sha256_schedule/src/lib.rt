@@ -1,4 +1,6 @@
 // The message schedule of a block (FIPS 180-4 section 5.2.1 and section 6.2.2 step 1).
+#![tactic(auto)]
+
 ghost use Rattle.std.specs.Prelude.{◌≡◌, ℕ, ◌<◌, length, slice_index};
 ghost use Rattle.sha256_schedule.specs.Schedule.{words, W};
 

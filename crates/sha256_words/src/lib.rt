@@ -1,4 +1,6 @@
 // FIPS 180-4 sections 3.2 and 4.1.2: a rotation, and the six functions on words.
+#![tactic(auto)]
+
 ghost use Rattle.std.specs.Prelude.{◌≡◌, ◌<◌};
 ghost use Rattle.sha256_words.specs.Words.{ROTR, Ch, Maj, Σ₀, Σ₁, σ₀, σ₁};
 

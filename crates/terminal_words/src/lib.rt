@@ -1,4 +1,6 @@
 // Words of a text: the runs of characters between separators.
+#![tactic(auto)]
+
 ghost use Rattle.std.specs.Prelude.{◌≡◌, ◌≤◌, length};
 ghost use Rattle.octets.specs.Octets as Octets;
 ghost use Rattle.terminal_words.specs.Words.{end_at, past_at, word_at, word_of, starts_at, word_count};

@@ -1,5 +1,6 @@
 // Public vectors: each line of the file stdin is a label and a call, and what it answers is written behind the label. The file
 // stdout has the papers' values, and ours on either side of a boundary.
+#![tactic(auto)]
 mod cipher;
 mod counts;
 mod fields;

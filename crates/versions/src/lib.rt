@@ -1,4 +1,6 @@
 // RFC 9000 sections 15 and 17.2 and docs/SCOPE.md, "Constants": the versions, and all that differs between them but the labels.
+#![tactic(auto)]
+
 ghost use Rattle.std.specs.Prelude.{◌≡◌};
 ghost use Rattle.versions.specs.Versions as Constants;
 ghost use Rattle.versions.specs.Versions.{known, type_for, level_of};

@@ -1,4 +1,5 @@
 // wicket: the library at a terminal.
+#![tactic(auto)]
 mod commands;
 mod headers;
 mod making;

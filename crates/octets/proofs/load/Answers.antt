@@ -1,0 +1,44 @@
+use Prim.Native.Nat.{◌+◌, ◌-◌, ◌*◌, ◌^◌, ◌≤◌, ◌<◌}
+use mathlib.Core.Path.{◌≡◌, refl, sym, ap, ◌∙◌}
+use borrow.Author.Rules.{rules}
+use native.Mathlib.Omega.{arith}
+use lib.ListN.{length, drop, drop_of_length-le}
+use lib.Pow.{pow_mono, pow-add}
+use Rattle.octets.specs.Octets.{number}
+use Rattle.octets.proofs.Numbers.{read_on, read-turn}
+use Rattle.octets.proofs.load.Goals as goal
+
+pub loop-i-init : goal.loop-i-init
+loop-i-init c = (search rules, search rules, refl)
+
+pub overflow_mul-value : goal.overflow_mul-value
+overflow_mul-value c =
+    let l = c.loop-i in
+    let small : 8 * l.i ≤ 56 = omega arith in
+    omega (arith, pow_mono small)
+
+pub overflow_add-value : goal.overflow_add-value
+overflow_add-value c =
+    let l = c.loop-i in
+    let small : 8 * l.i ≤ 56 = omega arith in
+    omega (arith, pow_mono small, c.type_inv.source l.i)
+
+pub loop-i-preserved : goal.loop-i-preserved
+loop-i-preserved c =
+    let l = c.loop-i in
+    let source = c.args.source.now in
+    let byte = c.type_inv.source l.i in
+    let inside : l.i < length source = omega arith in
+    let power : 2 ^ (8 * (l.i + 1)) ≡ 2 ^ (8 * l.i) * 256 = let e : 8 * (l.i + 1) ≡ 8 * l.i + 8 = omega arith in rw e (pow-add 2 (8 * l.i) 8) in (
+      omega arith,
+      omega (arith, power, byte),
+      read-turn source l.i l.value _ inside c.wide.ensures ∙ l.invariant.2,
+    )
+
+pub returns : goal.returns
+unfolding number
+returns c =
+    let l = c.loop-i in
+    let source = c.args.source.now in
+    let end : length source ≤ l.i = omega arith in
+    sym (ap (read_on l.value) (drop_of_length-le source end)) ∙ l.invariant.2

@@ -1,0 +1,17 @@
+-- After i turns the first i bytes of the number are laid over the buffer.
+use Prim.Native.Nat.{◌-◌, ◌≤◌}
+use mathlib.Core.Path.{◌≡◌, refl, sym, ap, ◌∙◌}
+use borrow.Author.Rules.{rules}
+use native.Mathlib.Omega.{arith}
+use lib.ListN.{length, length-set}
+use lib.Seq.{paste, paste-zero}
+use Rattle.octets.specs.Octets.{bytes}
+use Rattle.octets.proofs.Numbers.{bytes-length, byte-is}
+use Rattle.octets.proofs.Buffers.{lay-turn, lay-end}
+use Rattle.octets.proofs.store.Given as goal
+
+abbrev pub invariant-loop-i : goal.invariant-loop-i
+invariant-loop-i l = (l.i ≤ l.width) × (length l.buffer ≡ length l.initial.buffer) × (l.buffer ≡ paste l.initial.buffer l.at (bytes l.width l.value) l.i)
+
+abbrev pub decreases-loop-i : goal.decreases-loop-i
+decreases-loop-i l = l.width - l.i

@@ -1,0 +1,11 @@
+-- After i turns the first i words are the sums.
+use Rattle.std.proofs.Common.{◌≡◌, ◌-◌, ◌≤◌, length, arith, length-set, rules}
+use Rattle.octets.proofs.Rule.{Filled, filled_more}
+use Rattle.sha256_rounds.proofs.Sums.{sum_at, added_is}
+use Rattle.sha256_rounds.proofs.add_words.Given as goal
+
+abbrev pub invariant-loop-i : goal.invariant-loop-i
+invariant-loop-i l = (l.i ≤ 8) × (length l.next ≡ 8) × Filled (sum_at l.v l.h) l.next l.i
+
+abbrev pub decreases-loop-i : goal.decreases-loop-i
+decreases-loop-i l = 8 - l.i

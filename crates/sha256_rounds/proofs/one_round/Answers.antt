@@ -1,0 +1,9 @@
+-- The eight variables, with what the four calls ensure put in.
+use Rattle.std.proofs.Common.{rules}
+use Rattle.sha256_rounds.proofs.Sums.{rounded}
+use Rattle.sha256_rounds.proofs.one_round.Goals as goal
+
+pub returns : goal.returns
+returns c =
+    let a = c.args in
+    rounded a.k a.w a.t1 c.temporary1-t1.ensures c.temporary2-t2.ensures c.wrapping_add_u32-a.ensures c.wrapping_add_u32-e.ensures

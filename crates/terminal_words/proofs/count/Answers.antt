@@ -1,0 +1,29 @@
+
+use Prim.Native.Nat.{ℕ, ◌+◌, ◌-◌, ◌≤◌}
+use mathlib.Core.Logic.{⊎_elim}
+use mathlib.Core.Path.{◌≡◌, refl, sym, ap, ◌∙◌}
+use native.Mathlib.Omega.{arith}
+use borrow.Author.Rules.{rules}
+use lib.ListN.{length}
+use Rattle.terminal_words.specs.Words.{words_up_to}
+use Rattle.terminal_words.proofs.Separators.{count-one, count_none}
+use Rattle.terminal_words.proofs.count.Goals as goal
+
+pub loop-at-init : goal.loop-at-init
+unfolding words_up_to
+loop-at-init c = (omega arith, omega arith, refl)
+
+pub loop-at-preserved : goal.loop-at-preserved
+loop-at-preserved c =
+    let l = c.loop-at in
+    let s = c.starts.ensures in
+    ⊎_elim
+    (λ w. (omega arith, omega arith, w.1 ∙ ap (λ (n : ℕ). n + 1) l.invariant.2 ∙ sym (count-one _ _ l.at (sym s ∙ w.0.taken))))
+    (λ w. (omega arith, omega arith, w.1 ∙ l.invariant.2 ∙ sym (count_none _ _ l.at (sym s ∙ w.0.left))))
+    c.if-starts.branch
+
+pub returns : goal.returns
+returns c =
+    let l = c.loop-at in
+    let end : l.at ≡ length c.args.text.now = omega arith in
+    l.invariant.2 ∙ ap (words_up_to _ _) end

@@ -1,0 +1,17 @@
+-- From the place on, what the definition passes is passed.
+use Prim.Native.Nat.{◌-◌, ◌≤◌}
+use mathlib.Core.Bool.{not}
+use mathlib.Core.Path.{◌≡◌, ap}
+use native.Mathlib.Omega.{arith}
+use borrow.Author.Rules.{rules}
+use borrow.Author.Tests.{eq-eqb, ne_eqb}
+use lib.ListN.{length}
+use Rattle.terminal_words.specs.Words.{is_not, past_at}
+use Rattle.terminal_words.proofs.Separators.{until-turn, until-stops, until-ends}
+use Rattle.terminal_words.proofs.past_separators.Given as goal
+
+abbrev pub invariant-loop-at : goal.invariant-loop-at
+invariant-loop-at l = (l.start ≤ l.at) × (l.at ≤ length l.text) × (past_at l.separator l.text l.at ≡ past_at l.separator l.text l.start)
+
+abbrev pub decreases-loop-at : goal.decreases-loop-at
+decreases-loop-at l = length l.text - l.at

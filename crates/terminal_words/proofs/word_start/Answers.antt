@@ -1,0 +1,23 @@
+
+use Prim.Native.Nat.{◌-◌, ◌≤◌}
+use mathlib.Core.Path.{◌≡◌, ap, ◌∙◌}
+use native.Mathlib.Omega.{arith}
+use borrow.Author.Rules.{rules}
+use lib.ListN.{length}
+use Rattle.terminal_words.specs.Words.{word_at}
+use Rattle.terminal_words.proofs.Separators.{word_first, word_next}
+use Rattle.terminal_words.proofs.word_start.Goals as goal
+
+pub loop-i-init : goal.loop-i-init
+loop-i-init c = (omega arith, omega arith, word_first _ _ _ c.past_separators-at.ensures.2)
+
+pub loop-i-preserved : goal.loop-i-preserved
+loop-i-preserved c =
+    let l = c.loop-i in
+    (omega arith, omega arith, word_next _ _ l.i _ _ _ l.invariant.2 c.next_separator.ensures.2 c.past_separators-at-in-loop-i.ensures.2)
+
+pub returns : goal.returns
+returns c =
+    let l = c.loop-i in
+    let end : l.i ≡ c.args.index = omega arith in
+    (omega arith, l.invariant.2 ∙ ap (word_at _ _) end)
