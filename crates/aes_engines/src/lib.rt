@@ -4,7 +4,7 @@ ghost use Rattle.std.specs.Prelude.{◌≡◌};
 ghost use Rattle.aes_byte_rounds.specs.Cipher.{cipher};
 
 // What each engine makes of a block.
-#[derive(Drop)]
+#[derive(Clone, Copy)]
 pub struct Both {
     pub bytes: [u8; 16],
     pub words: [u8; 16],

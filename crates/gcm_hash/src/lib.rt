@@ -10,7 +10,7 @@ use gcm_field::{Block, add};
 use gcm_product::times;
 
 // GHASH on its way: Y with the bytes of the present block added, and how many those are.
-#[derive(Drop)]
+#[derive(Clone, Copy)]
 pub struct Ghash {
     pub y: Block,
     pub filled: usize,
@@ -75,7 +75,7 @@ pub fn load_block(bytes: &[u8], at: usize) -> Block
 }
 
 // A state, and how far it has come in a slice.
-#[derive(Drop)]
+#[derive(Clone, Copy)]
 struct Reached {
     g: Ghash,
     at: usize,

@@ -18,14 +18,14 @@ pub const TAG_LENGTH: usize = 16;
 const LEAST_LENGTH: usize = 20;
 
 // Where something stands in the datagram.
-#[derive(Drop)]
+#[derive(Clone, Copy)]
 pub struct Place {
     pub at: usize,
     pub len: usize,
 }
 
 // Where a field stands, or why it does not.
-#[derive(Drop)]
+#[derive(Clone, Copy)]
 pub enum Found {
     Refused(u8),
     At(Place),

@@ -11,21 +11,21 @@ use header_long::{Judge, LongReading, Types, Versions, read_long};
 use versions::level;
 
 // Where a token stands, and where the fields go on behind it.
-#[derive(Drop)]
+#[derive(Clone, Copy)]
 struct Token {
     place: Place,
     end: usize,
 }
 
 // What looking for a token answers.
-#[derive(Drop)]
+#[derive(Clone, Copy)]
 enum TokenFound {
     Refused(u8),
     At(Token),
 }
 
 // The header of a packet with a number, up to it.
-#[derive(Drop)]
+#[derive(Clone, Copy)]
 pub struct Header {
     pub version: u32,
     pub level: u8,
@@ -37,7 +37,7 @@ pub struct Header {
 }
 
 // What reading a header answers: a refusal's number, or the header.
-#[derive(Drop)]
+#[derive(Clone, Copy)]
 pub enum Reading {
     Refused(u8),
     Read(Header),

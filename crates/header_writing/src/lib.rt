@@ -10,7 +10,7 @@ use integers_writing::{smallest_form, write_smallest, write_two};
 use versions::level;
 
 // Whether a packet has a field for a token: an Initial has, and no other packet with a number.
-#[derive(Drop)]
+#[derive(Clone, Copy)]
 pub enum TokenField {
     Holding,
     Absent,

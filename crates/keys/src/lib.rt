@@ -20,14 +20,14 @@ const ZERO_RTT: u32 = level::ZERO_RTT as u32;
 const HANDSHAKE: u32 = level::HANDSHAKE as u32;
 
 // Whose packets the keys protect.
-#[derive(Drop)]
+#[derive(Clone, Copy)]
 pub enum Side {
     Client,
     Server,
 }
 
 // The keys of one sender, or a refusal's number beside a blank record; 0 is no refusal.
-#[derive(Drop)]
+#[derive(Clone, Copy)]
 pub struct MadeKeys {
     pub refused: u8,
     pub keys: Keys,

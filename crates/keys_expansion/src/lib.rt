@@ -9,7 +9,7 @@ ghost use Rattle.keys_expansion.specs.Expansion.{label_of, keys_from};
 use protection::Keys;
 
 // What is expanded from a sender's secret.
-#[derive(Drop)]
+#[derive(Clone, Copy)]
 pub enum Part {
     Key,
     Iv,
@@ -17,7 +17,7 @@ pub enum Part {
 }
 
 // A label: its bytes, with blanks to the longest, and how many it has.
-#[derive(Drop)]
+#[derive(Clone, Copy)]
 struct Label([u8; 10], usize);
 
 // The label of a part in a version: section 5.1's, or the draft's.

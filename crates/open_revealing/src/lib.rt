@@ -11,7 +11,7 @@ use open_unmasking::{Packet, unmask};
 use protection::Keys;
 
 // What was found in a datagram, before its tag is judged.
-#[derive(Drop)]
+#[derive(Clone, Copy)]
 pub enum Finding {
     Refused(u8),
     Found(Packet),

@@ -10,7 +10,7 @@ use numbers::{FullPn, TruncatedPn};
 use protection::Keys;
 
 // Without the mask: the first byte, and the short number with the count of its bytes.
-#[derive(Drop)]
+#[derive(Clone, Copy)]
 pub struct Bare {
     pub first: u8,
     pub count: usize,
@@ -19,7 +19,7 @@ pub struct Bare {
 
 // A packet whose tag is still to be judged: without the mask, its first byte, its number as it stands there in `count` bytes and
 // the full one; where it stands, and how many bytes the packet has from there on.
-#[derive(Drop)]
+#[derive(Clone, Copy)]
 pub struct Packet {
     pub first: u8,
     pub count: usize,

@@ -10,7 +10,7 @@ use open_unmasking::Packet;
 
 // What was opened: the full number and its length, the header's length with the number in it, the payload's length, and how many of
 // the datagram's bytes the packet took.
-#[derive(Drop)]
+#[derive(Clone, Copy)]
 pub struct Opened {
     pub number: FullPn,
     pub number_length: usize,

@@ -5,7 +5,7 @@ ghost use Rattle.aes_byte_rounds.specs.Cipher.{cipher};
 ghost use Rattle.protection.specs.Protection.{nonce, sample_of};
 
 // One sender's keys, of one version and level.
-#[derive(Drop)]
+#[derive(Clone, Copy)]
 pub struct Keys {
     pub version: u32,
     pub level: u8,

@@ -14,7 +14,7 @@ use octets::refusal;
 use retry_tag::tag_of;
 
 // The version of a Retry that was checked, and where its parts stand.
-#[derive(Drop)]
+#[derive(Clone, Copy)]
 pub struct RetryFields {
     pub version: u32,
     pub destination: Place,
@@ -23,7 +23,7 @@ pub struct RetryFields {
 }
 
 // What checking answers: a refusal's number, or the fields.
-#[derive(Drop)]
+#[derive(Clone, Copy)]
 pub enum Checking {
     Refused(u8),
     Checked(RetryFields),

@@ -11,7 +11,7 @@ use octets::refusal;
 use retry_tag::tag_of;
 
 // What writing answers: a refusal's number, or the packet's length.
-#[derive(Drop)]
+#[derive(Clone, Copy)]
 pub enum Writing {
     Refused(u8),
     Written(usize),

@@ -20,7 +20,7 @@ use octets::refusal;
 use protection::Keys;
 
 // What sealing answers: a refusal's number, or the packet's length.
-#[derive(Drop)]
+#[derive(Clone, Copy)]
 pub enum Sealing {
     Refused(u8),
     Written(usize),

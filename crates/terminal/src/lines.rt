@@ -4,7 +4,7 @@ ghost use Rattle.io.specs.Counts.{IsPrefixLen};
 ghost use Rattle.terminal.specs.Blanks.{unblanked, zeroed};
 
 // A file that is being read: its descriptor, and the part of the chunk that is still to be taken.
-#[derive(Drop)]
+#[derive(Clone, Copy)]
 pub struct Source {
     pub file: i32,
     pub at: usize,
@@ -12,7 +12,7 @@ pub struct Source {
 }
 
 // What comes next: a character, with the source behind it; the end; or a read that failed.
-#[derive(Drop)]
+#[derive(Clone, Copy)]
 pub enum Step {
     Byte(u8, Source),
     End,
@@ -20,7 +20,7 @@ pub enum Step {
 }
 
 // How reading a line went.
-#[derive(Drop)]
+#[derive(Clone, Copy)]
 pub enum Ending {
     Whole,
     TooLong,
@@ -29,7 +29,7 @@ pub enum Ending {
 }
 
 // A line at the start of a buffer: how it ended, how long it is, and the source behind it.
-#[derive(Drop)]
+#[derive(Clone, Copy)]
 pub struct Line {
     pub ending: Ending,
     pub length: usize,

@@ -5,12 +5,8 @@ use Rattle.aes_s_box.specs.Field.{x_times, sums}
 use Rattle.aes_s_box.specs.Box.{spelled}
 use Rattle.aes_s_box.proofs.SBox.{inverses}
 use Rattle.aes_word_table.proofs.Entries.{mixing}
-use Rattle.aes_word_table.proofs.table.Statement.{statement}
-use Rattle.aes_word_table.proofs.table.Tie as tie
+use Rattle.aes_word_table.proofs.table.Goals as goal
 
-returns : tie.Need-returns
+pub returns : goal.returns
 unfolding inverses spelled number sums x_times
 returns c = mixing _ refl tt
-
-pub table-spec : {M : Type 1} → statement M
-table-spec = tie.close (tie.spec returns)

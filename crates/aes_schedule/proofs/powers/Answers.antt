@@ -3,12 +3,8 @@ use mathlib.Core.Path.{refl}
 use Rattle.aes_s_box.specs.Field.{x_times}
 use Rattle.aes_schedule.specs.Expansion.{x_power}
 use Rattle.aes_schedule.proofs.PowerTable.{powered}
-use Rattle.aes_schedule.proofs.powers.Statement.{statement}
-use Rattle.aes_schedule.proofs.powers.Tie as tie
+use Rattle.aes_schedule.proofs.powers.Goals as goal
 
-returns : tie.Need-returns
+pub returns : goal.returns
 unfolding x_power x_times
 returns c = powered _ refl tt
-
-pub powers-spec : {M : Type 1} → statement M
-powers-spec = tie.close (tie.spec returns)
