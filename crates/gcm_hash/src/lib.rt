@@ -1,5 +1,6 @@
 // GHASH as a stream (SP 800-38D section 6.4): its bytes come in pieces, and the state goes in by value and comes back.
 #![tactic(auto)]
+
 ghost use Rattle.std.specs.Prelude.{◌≡◌, ◌+◌, ◌*◌, ◌^◌, ◌<◌, ◌≤◌, length};
 ghost use Rattle.octets.specs.Octets.{number, part};
 ghost use Rattle.gcm_field.specs.Field.{num};
