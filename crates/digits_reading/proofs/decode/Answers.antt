@@ -1,4 +1,3 @@
-
 use Prim.Native.Nat.{ℕ, ◌+◌, ◌*◌, ◌/◌, ◌%◌, min, ◌-◌, ◌≤◌}
 use mathlib.Core.Path.{ap₂, ◌≡◌, refl, sym, ap, ◌∙◌}
 use native.Mathlib.Omega.{arith}
