@@ -1,5 +1,6 @@
 // RFC 9000 sections 16 and 17.2: where a field of a long header stands, in the order of docs/SCOPE.md, "Order of refusals".
 #![tactic(auto)]
+
 ghost use Rattle.std.specs.Prelude.{◌≡◌, ◌+◌, ◌≤◌, length};
 ghost use Rattle.octets.specs.Octets.{part};
 ghost use Rattle.header_fields.specs.Fields.{id_at, integer_at, field_at, rest_at};

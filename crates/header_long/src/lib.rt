@@ -1,5 +1,6 @@
 // RFC 9000 section 17.2: what every long header begins with, read field by field in the order of docs/SCOPE.md, "Order of refusals".
 #![tactic(auto)]
+
 ghost use Rattle.std.specs.Prelude.{◌≡◌};
 ghost use Rattle.versions.specs.Versions as Constants;
 ghost use Rattle.versions.specs.Answers.{level_answer};

@@ -1,5 +1,6 @@
 // RFC 9000 sections 17.2.2 to 17.2.4: the header of a packet with a number, read up to it in the order of docs/SCOPE.md, "Order of refusals".
 #![tactic(auto)]
+
 ghost use Rattle.std.specs.Prelude.{◌≡◌, ◌≤◌, length};
 ghost use Rattle.header_long.specs.Answers.{judge_of};
 ghost use Rattle.header_reading.specs.PacketHeader.{token_at, header};

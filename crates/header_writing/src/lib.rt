@@ -1,5 +1,6 @@
 // RFC 9000 section 17.2: long headers, written at the start of a lent buffer.
 #![tactic(auto)]
+
 ghost use Rattle.std.specs.Prelude.{◌≡◌, ◌∷◌, ◌+◌, ◌^◌, ◌≤◌, ◌<◌, length};
 ghost use Rattle.octets.specs.Octets.{laid, Begins};
 ghost use Rattle.header_forms.specs.Rules.{in_force};
