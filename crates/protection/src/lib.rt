@@ -1,5 +1,6 @@
 // RFC 9001 sections 5.3 and 5.4: one sender's keys, and the parts of protection that sealing and opening share.
 #![tactic(auto)]
+
 ghost use Rattle.std.specs.Prelude.{◌≡◌, ◌+◌, ◌≤◌, length};
 ghost use Rattle.aes_byte_rounds.specs.Cipher.{cipher};
 ghost use Rattle.protection.specs.Protection.{nonce, sample_of};
