@@ -1,6 +1,7 @@
 // RFC 9001 section 5: one sender's keys. Those of Initial packets come of the client's Destination Connection ID, and those of other
 // levels of a secret that TLS hands over.
 #![tactic(auto)]
+
 ghost use Rattle.std.specs.Prelude.{◌≡◌, ◌≤◌, length};
 ghost use Rattle.octets.specs.Outcome as Outcome;
 ghost use Rattle.header_fields.specs.Fields.{longest_id};

@@ -1,5 +1,6 @@
 // RFC 9001 section 5.1: a sender's keys, from its secret.
 #![tactic(auto)]
+
 ghost use Rattle.std.specs.Prelude.{◌≡◌, ◌≤◌, length, take};
 ghost use Rattle.hkdf.specs.Hkdf.{expand_label};
 ghost use Rattle.versions.specs.Versions as Versions;

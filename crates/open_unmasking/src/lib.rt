@@ -1,5 +1,6 @@
 // Opening, RFC 9001 section 5.4: the mask taken off, and what a packet is without it.
 #![tactic(auto)]
+
 ghost use Rattle.std.specs.Prelude.{◌+◌, ◌≤◌, length};
 ghost use Rattle.header_forms.specs.Answers.{form_of};
 ghost use Rattle.protection.specs.KeyRecord.{keys_of};

@@ -1,5 +1,6 @@
 // Opening, RFC 9001 section 5.3: a packet whose tag is right, written out, and what is said of it.
 #![tactic(auto)]
+
 ghost use Rattle.std.specs.Prelude.{◌+◌, ◌≤◌, length};
 ghost use Rattle.open_unmasking.specs.Parts.{Within};
 ghost use Rattle.open_writing.specs.Written.{Writes};

@@ -1,5 +1,6 @@
 // Retry packets, checked: RFC 9000 section 17.2.5 and RFC 9001 section 5.8.
 #![tactic(auto)]
+
 ghost use Rattle.std.specs.Prelude.{◌≡◌, ◌≤◌, length};
 ghost use Rattle.header_forms.specs.Rules.{in_force};
 ghost use Rattle.header_fields.specs.Answers.{found_answer};

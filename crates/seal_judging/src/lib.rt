@@ -1,5 +1,6 @@
 // Sealing, as far as nothing is written: what is asked is judged in the order of docs/SCOPE.md, "Order of refusals".
 #![tactic(auto)]
+
 ghost use Rattle.std.specs.Prelude.{◌≡◌, ◌+◌, ◌≤◌, length};
 ghost use Rattle.octets.specs.Octets.{length_given};
 ghost use Rattle.numbers_shortening.specs.Answers.{acknowledged_of};
