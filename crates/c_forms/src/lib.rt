@@ -1,6 +1,7 @@
 // What the functions for C share: what each promises of its answer and its report (specs/Promises.antt), and what stands for an
 // acknowledged number.
 #![tactic(auto)]
+
 ghost use Rattle.std.specs.Prelude.{◌≡◌};
 ghost use Rattle.numbers_shortening.specs.Answers.{acknowledged_of};
 ghost use Rattle.c_forms.specs.Arguments.{acknowledged_by};

@@ -1,5 +1,6 @@
 // RFC 9000 sections 17.2.2 to 17.2.4 for C: the header of a packet with a number.
 #![tactic(auto)]
+
 ghost use Rattle.c_header.specs.Promises.{DwReadHeader};
 
 use header_reading::Reading;

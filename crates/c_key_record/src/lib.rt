@@ -1,5 +1,6 @@
 // A key record as C holds it, in 49 bytes: the version in four, the level in one, then key, iv and hp.
 #![tactic(auto)]
+
 ghost use Rattle.std.specs.Prelude.{◌≡◌};
 ghost use Rattle.protection.specs.KeyRecord.{keys_of};
 ghost use Rattle.c_key_record.specs.Layout.{key_bytes, keys_in};

@@ -1,5 +1,6 @@
 // RFC 9001 sections 5.1 and 5.2 for C: one side's keys, as a key record.
 #![tactic(auto)]
+
 ghost use Rattle.std.specs.Prelude.{◌≡◌};
 ghost use Rattle.keys.specs.Answers.{side_of};
 ghost use Rattle.c_forms.specs.Promises.{Answers};

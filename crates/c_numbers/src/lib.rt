@@ -1,5 +1,6 @@
 // RFC 9000 sections 16 and 17.1 for C: integers of variable length, and packet numbers short and full.
 #![tactic(auto)]
+
 ghost use Rattle.c_numbers.specs.Promises.{DwReadInteger, DwSmallestLength, DwShorten, DwRecover};
 
 use c_forms::acknowledged_by;

@@ -1,5 +1,6 @@
 // RFC 9001 section 5.8 for C: a Retry written and checked.
 #![tactic(auto)]
+
 ghost use Rattle.c_retry.specs.Promises.{DwWriteRetry, DwCheckRetry};
 
 use retry_checking::Checking;

@@ -1,5 +1,6 @@
 // The product: every entry point, and every type that one takes or answers with.
 #![tactic(auto)]
+
 pub use header_fields::Place;
 pub use header_parts::{header_destination, header_source, header_token};
 pub use header_reading::{Header, Reading, read_header};

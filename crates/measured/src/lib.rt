@@ -1,5 +1,6 @@
 // The inner parts of the library as C functions, so that `make bench` can time each alone. No part of the product.
 #![tactic(auto)]
+
 pub mod by_bits;
 
 ghost use Rattle.std.specs.Prelude.{◌≡◌, ◌/◌, length};

@@ -1,5 +1,6 @@
 // Opening: RFC 9001 section 5, as docs/SCOPE.md, "Protection", has it.
 #![tactic(auto)]
+
 ghost use Rattle.protection.specs.KeyRecord.{keys_of};
 ghost use Rattle.open.specs.Opening.{Open};
 

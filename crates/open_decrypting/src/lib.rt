@@ -1,5 +1,6 @@
 // Opening, RFC 9001 section 5.3 undone: a packet that was found, decrypted, for any form of header.
 #![tactic(auto)]
+
 ghost use Rattle.std.specs.Prelude.{◌≡◌, ◌+◌, ◌≤◌, ◌<◌, max, length};
 ghost use Rattle.numbers.specs.Numbers.{numbers};
 ghost use Rattle.protection.specs.KeyRecord.{keys_of};

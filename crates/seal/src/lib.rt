@@ -1,5 +1,6 @@
 // Sealing: RFC 9001 section 5, as docs/SCOPE.md, "Protection", has it.
 #![tactic(auto)]
+
 ghost use Rattle.std.specs.Prelude.{◌≡◌, length};
 ghost use Rattle.octets.specs.Octets.{begun};
 ghost use Rattle.header_forms.specs.Rules.{in_force};

@@ -1,5 +1,6 @@
 // Sealing, RFC 9001 section 5.3: the payload encrypted behind its header, and the tag over both.
 #![tactic(auto)]
+
 ghost use Rattle.std.specs.Prelude.{◌≡◌, ◌+◌, ◌-◌, ◌≤◌, length, take};
 ghost use Rattle.octets.specs.Octets.{laid, part};
 ghost use Rattle.gcm.specs.Gcm.{tag_by, hash_key};

@@ -1,5 +1,6 @@
 // Sealing, RFC 9000 sections 17.2.2 to 17.2.4: the plain header with its number.
 #![tactic(auto)]
+
 ghost use Rattle.std.specs.Prelude.{length};
 ghost use Rattle.header_writing.specs.Answers.{token_of};
 ghost use Rattle.packets.specs.Sealable.{Writable};

@@ -1,5 +1,6 @@
 // Sealing, RFC 9001 section 5.4: the header protected, in any form.
 #![tactic(auto)]
+
 ghost use Rattle.std.specs.Prelude.{◌≡◌, ◌+◌, ◌≤◌, length};
 ghost use Rattle.header_forms.specs.Answers.{form_of};
 ghost use Rattle.protection.specs.Protection.{masked};

@@ -1,5 +1,6 @@
 // Sealing, RFC 9001 sections 5.3 and 5.4: a packet whose header stands in the clear, protected, for any form of header.
 #![tactic(auto)]
+
 ghost use Rattle.header_forms.specs.Answers.{form_of};
 ghost use Rattle.protection.specs.KeyRecord.{keys_of};
 ghost use Rattle.seal_protecting.specs.Protecting.{Room, Protects};
