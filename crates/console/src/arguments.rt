@@ -1,6 +1,6 @@
 // The program's own arguments, as one line.
 ghost use Rattle.std.specs.Prelude.{◌≤◌, length};
-ghost use Rattle.io.specs.Counts.{IsPrefixLen};
+ghost use Rattle.std.specs.Counts.{IsPrefixLen};
 
 // A line of words, each ended by a zero: how long it is; and the argument for which there was no room, or 0.
 #[derive(Drop)]

@@ -1,6 +1,6 @@
 // A file read by lines, however long it is, through a chunk that the caller lends.
 ghost use Rattle.std.specs.Prelude.{◌≡◌};
-ghost use Rattle.io.specs.Counts.{IsPrefixLen};
+ghost use Rattle.std.specs.Counts.{IsPrefixLen};
 ghost use Rattle.terminal.specs.Blanks.{unblanked, zeroed};
 
 // A file that is being read: its descriptor, and the part of the chunk that is still to be taken.

@@ -1,4 +1,3 @@
-
 use Prim.Native.Nat.{ℕ, ◌+◌, ◌*◌, ◌/◌, ◌%◌, min, ◌-◌, ◌≤◌}
 use mathlib.Core.Path.{ap₂, ◌≡◌, refl, sym, ap, ◌∙◌}
 use native.Mathlib.Omega.{arith}
@@ -42,10 +41,10 @@ returns c =
     let long : length (pairs text) ≡ length text / 2 = pairs-length text in
     let all : length (take n.result (pairs text)) ≡ n.result = length-take-le n.result (pairs text) (omega arith) in
     let fits : n.result ≤ length l.buffer = omega arith in
-    let end : l.i ≡ length (take n.result (pairs text)) = omega arith in (
-      (fits, sym (length-take-le _ l.buffer fits)),
-      record {
+    let end : l.i ≡ length (take n.result (pairs text)) = omega arith in record {
+      prefix_len = (fits, sym (length-take-le _ l.buffer fits));
+      decoded = record {
         counted = n.ensures.0 ∙ ap (λ (k : ℕ). min k (length a.buffer.now)) (sym long);
         holds = lay-begun l.buffer a.buffer.now (take n.result (pairs text)) l.i end l.invariant.2;
-      },
-    )
+      };
+    }
