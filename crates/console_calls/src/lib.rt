@@ -1,5 +1,6 @@
 // A call, as a line of words, judged by the manual: a line for each command, with a name for each word behind it.
 #![tactic(auto)]
+
 ghost use Rattle.std.specs.Prelude.{true, ◌≡◌, IfOk};
 ghost use Rattle.terminal_words.specs.Words.{words_from};
 ghost use Rattle.console_calls.specs.Calls.{are_right, usage_of, enough, well_made};

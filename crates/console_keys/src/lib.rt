@@ -1,6 +1,7 @@
 // The words of a call that keys come of, judged: a connection ID for Initial keys, and for other levels a level and a secret there
 // (RFC 9001 sections 5.1 and 5.2).
 #![tactic(auto)]
+
 ghost use Rattle.std.specs.Prelude.{◌≡◌, IfOk};
 ghost use Rattle.console_keys.specs.Words.{is_level, is_secret, is_origin, is_asked};
 

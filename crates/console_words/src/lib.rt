@@ -1,5 +1,6 @@
 // A word of a call, judged by the name that the manual has for it.
 #![tactic(auto)]
+
 ghost use Rattle.std.specs.Prelude.{◌≡◌, IfOk};
 ghost use Rattle.console_words.specs.Words.{is_hex, is_number, is_side, is_count, is_right};
 
@@ -56,7 +57,10 @@ fn is_number(rt: &impl Print, text: &[u8], name: &[u8], largest: u64) -> io::Res
         }
         Number::NoNumber => {
             wrong(rt, name)?;
-            terminal::say(rt, b"no number, which is decimal digits, or 0x and hex digits\n")?;
+            terminal::say(
+                rt,
+                b"no number, which is decimal digits, or 0x and hex digits\n",
+            )?;
             return Ok(false);
         }
         Number::TooLarge => {}
