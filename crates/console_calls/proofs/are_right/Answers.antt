@@ -1,0 +1,36 @@
+use Prim.Native.Nat.{◌+◌, ◌-◌, ◌≤◌}
+use mathlib.Core.Path.{◌≡◌, refl, sym, ◌∙◌}
+use native.Mathlib.Omega.{arith}
+use borrow.Author.Rules.{rules}
+use borrow.Author.Tests.{not-true, not-false}
+use Rattle.terminal_words.specs.Words.{words_from}
+use Rattle.console_calls.specs.Calls.{are_right}
+use Rattle.console_calls.proofs.Judging.{right-passed, right-stopped, right_end}
+use Rattle.console_calls.proofs.are_right.Goals as goal
+
+pub loop-i-init : goal.loop-i-init
+loop-i-init g c = (omega arith, refl)
+
+pub returns-then-not-branch : goal.returns-then-not-branch
+returns-then-not-branch g c =
+    let a = c.args in
+    let l = c.loop-i in
+    let word = c.word.ensures in
+    let name = c.word-in-loop-i.ensures in
+    let told = sym c.in_ok-is_asked.ensures in
+    sym (right-stopped a.line.now a.usage.now c.requires l.i l.invariant.0 (omega arith) word name (told ∙ c.if-not-branch.true)) ∙ l.invariant.1
+
+pub loop-i-preserved : goal.loop-i-preserved
+loop-i-preserved g c =
+    let a = c.args in
+    let l = c.loop-i in
+    let word = c.word.ensures in
+    let name = c.word-in-loop-i.ensures in
+    let told = sym c.in_ok-is_asked.ensures in
+    (omega arith, sym (right-passed a.line.now a.usage.now c.requires l.i l.invariant.0 (omega arith) word name (told ∙ c.if-not-branch.false)) ∙ l.invariant.1)
+
+pub returns : goal.returns
+returns g c =
+    let a = c.args in
+    let l = c.loop-i in
+    sym (right_end a.line.now a.usage.now c.requires l.i l.invariant.0 (omega arith)) ∙ l.invariant.1
