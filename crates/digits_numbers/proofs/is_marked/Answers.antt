@@ -1,6 +1,5 @@
 -- The tests on the way say what is missing.
 use mathlib.Core.Path.{sym}
-use borrow.Author.Rules.{rules}
 use Rattle.digits_numbers.proofs.Reading.{too_short, no_zero, by-letter}
 use Rattle.digits_numbers.proofs.is_marked.Goals as goal
 

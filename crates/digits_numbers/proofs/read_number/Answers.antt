@@ -1,7 +1,6 @@
 -- A mark says the base, and that something stands behind it.
 use mathlib.Core.Path.{sym, ◌∙◌}
 use native.Mathlib.Omega.{arith}
-use borrow.Author.Rules.{rules}
 use Rattle.digits_numbers.proofs.Reading.{marked-long, in-hex, in-decimal}
 use Rattle.digits_numbers.proofs.read_number.Goals as goal
 

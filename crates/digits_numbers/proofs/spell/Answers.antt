@@ -1,11 +1,10 @@
-
-use Prim.Native.Nat.{ℕ, ◌+◌, ◌*◌, ◌-◌, ◌^◌, ◌≤◌, ◌<◌}
-use mathlib.Core.Path.{◌≡◌, refl, sym, ap, ◌∙◌}
+use Prim.Native.Nat.{ℕ, ◌+◌, ◌*◌, ◌^◌, ◌≤◌, ◌<◌}
+use mathlib.Core.Path.{refl, sym, ap, ◌∙◌}
 use native.Mathlib.Omega.{arith}
 use borrow.Author.Rules.{rules}
 use lib.ListN.{get_or, length, drop}
 use Rattle.digits_reading.specs.Digits.{value_of}
-use Rattle.digits_numbers.specs.Numbers.{read_on, spelled}
+use Rattle.digits_numbers.specs.Numbers.{read_on}
 use Rattle.digits_numbers.specs.declared.Number.TheVariants.{Value}
 use Rattle.digits_numbers.proofs.Reading.{grows, read-turn, read-ends, next_fits, next-wraps, fits, wraps}
 use Rattle.digits_numbers.proofs.spell.Goals as goal

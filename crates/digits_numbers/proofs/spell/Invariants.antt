@@ -1,13 +1,8 @@
 -- What is left to read from the number so far gives the number of all digits.
-use Prim.Native.Nat.{ℕ, ◌+◌, ◌*◌, ◌-◌, ◌^◌, ◌≤◌, ◌<◌}
-use mathlib.Core.Path.{◌≡◌, refl, sym, ap, ◌∙◌}
-use native.Mathlib.Omega.{arith}
-use borrow.Author.Rules.{rules}
-use lib.ListN.{get_or, length, drop}
-use Rattle.digits_reading.specs.Digits.{value_of}
+use Prim.Native.Nat.{◌-◌, ◌^◌, ◌≤◌, ◌<◌}
+use mathlib.Core.Path.{◌≡◌}
+use lib.ListN.{length, drop}
 use Rattle.digits_numbers.specs.Numbers.{read_on, spelled}
-use Rattle.digits_numbers.specs.declared.Number.TheVariants.{Value}
-use Rattle.digits_numbers.proofs.Reading.{grows, read-turn, read-ends, next_fits, next-wraps, fits, wraps}
 use Rattle.digits_numbers.proofs.spell.Given as goal
 
 abbrev pub invariant-loop-i : goal.invariant-loop-i

@@ -1,10 +1,8 @@
-
-use Prim.Native.Nat.{ℕ, ◌+◌, ◌-◌, ◌*◌, ◌≤◌}
+use Prim.Native.Nat.{ℕ, ◌+◌, ◌*◌, ◌≤◌}
 use mathlib.Core.Path.{◌≡◌, sym, ap, ◌∙◌}
 use native.Mathlib.Omega.{arith}
-use borrow.Author.Rules.{rules}
 use lib.ListN.{length-set, length, take}
-use lib.Seq.{length-take-le, get_or-take, paste}
+use lib.Seq.{length-take-le, get_or-take}
 use Rattle.digits_writing.specs.Hex.{hex}
 use Rattle.digits_writing.proofs.Hex.{hex-length, hex-at, lay-two}
 use Rattle.digits_reading.proofs.Pairs.{lay-begun}
