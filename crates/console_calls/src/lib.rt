@@ -1,8 +1,9 @@
 // A call, as a line of words, judged by the manual: a line for each command, with a name for each word behind it.
 #![tactic(auto)]
 
-ghost use Rattle.std.specs.Prelude.{true, ◌≡◌, IfOk};
+ghost use Rattle.std.specs.Prelude.{true, false, ◌≡◌};
 ghost use Rattle.terminal_words.specs.Words.{words_from};
+ghost use Rattle.console.specs.Judging.{Judged};
 ghost use Rattle.console_calls.specs.Calls.{are_right, usage_of, enough, well_made};
 
 use console::fields::END;
@@ -44,27 +45,34 @@ fn show(rt: &impl Print, manual: &[u8]) -> io::Result<()> {
     terminal::say(rt, &NOTES)
 }
 
+// Why there are not as many words behind a command as it takes.
+fn uneven(rt: &impl Print, given: u64, wanted: u64) -> io::Result<bool>
+    ensures { Judged result false }
+{
+    wrong(rt, b"call")?;
+    terminal::say_number(rt, given)?;
+    terminal::say(rt, b" words behind the command, which takes ")?;
+    terminal::say_number(rt, wanted)?;
+    terminal::say(rt, b"\n")?;
+    Ok(false)
+}
+
 // Whether there are as many words behind a command as the manual's line has; where not, it is said how many.
 fn are_enough(rt: &impl Print, line: &[u8], usage: &[u8]) -> io::Result<bool>
-    ensures { IfOk result (λ yes. yes ≡ enough line.now usage.now) }
+    ensures { Judged result (enough line.now usage.now) }
 {
     let given = less(count(line, END), 1);
     let wanted = less(count(usage, b' '), 2);
     if given == wanted {
         return Ok(true);
     }
-    wrong(rt, b"call")?;
-    terminal::say_number(rt, given as u64)?;
-    terminal::say(rt, b" words behind the command, which takes ")?;
-    terminal::say_number(rt, wanted as u64)?;
-    terminal::say(rt, b"\n")?;
-    Ok(false)
+    uneven(rt, given as u64, wanted as u64)
 }
 
 // Whether each word behind the command is what the manual's name for it asks.
 fn are_right(rt: &impl Print, line: &[u8], usage: &[u8]) -> io::Result<bool>
     requires { enough line.now usage.now ≡ true }
-    ensures { IfOk result (λ yes. yes ≡ are_right (words_from 0 line.now 1) (words_from 32 usage.now 2)) }
+    ensures { Judged result (are_right (words_from 0 line.now 1) (words_from 32 usage.now 2)) }
 {
     let given = count(line, END);
     let mut i: usize = 1;
@@ -87,24 +95,38 @@ fn unknown(rt: &impl Print, command: &[u8]) -> io::Result<()> {
     Ok(())
 }
 
+// Why a call is none of the manual's: its command, and how calls are made.
+fn no_call(rt: &impl Print, command: &[u8], manual: &[u8]) -> io::Result<bool>
+    ensures { Judged result false }
+{
+    unknown(rt, command)?;
+    show(rt, manual)?;
+    Ok(false)
+}
+
+// How a call that was told to be wrong is made.
+fn ill_made(rt: &impl Print, usage: &[u8]) -> io::Result<bool>
+    ensures { Judged result false }
+{
+    terminal::say(rt, b"usage: ")?;
+    terminal::say(rt, usage)?;
+    terminal::say(rt, b"\n")?;
+    Ok(false)
+}
+
 // Whether a call is as the manual has it; where not, it is said what is wrong, and how it is made.
 pub fn is_well_made(rt: &impl Print, line: &[u8], manual: &[u8]) -> io::Result<bool>
-    ensures { IfOk result (λ yes. yes ≡ well_made line.now manual.now) }
+    ensures { Judged result (well_made line.now manual.now) }
 {
     let command = word(line, 0, END);
     let usage = usage_of(manual, command);
     if usage.len() == 0 {
-        unknown(rt, command)?;
-        show(rt, manual)?;
-        return Ok(false);
+        return no_call(rt, command, manual);
     }
     if are_enough(rt, line, usage)? {
         if are_right(rt, line, usage)? {
             return Ok(true);
         }
     }
-    terminal::say(rt, b"usage: ")?;
-    terminal::say(rt, usage)?;
-    terminal::say(rt, b"\n")?;
-    Ok(false)
+    ill_made(rt, usage)
 }

@@ -1,7 +1,8 @@
 // A word of a call, judged by the name that the manual has for it.
 #![tactic(auto)]
 
-ghost use Rattle.std.specs.Prelude.{◌≡◌, IfOk};
+ghost use Rattle.std.specs.Prelude.{◌≡◌, false};
+ghost use Rattle.console.specs.Judging.{Judged};
 ghost use Rattle.console_words.specs.Words.{is_hex, is_number, is_side, is_count, is_right};
 
 use digits_numbers::{Number, read_number};
@@ -19,52 +20,59 @@ pub fn wrong(rt: &impl Print, name: &[u8]) -> io::Result<()> {
     terminal::say(rt, b": ")
 }
 
+// Why a word is no hex: the character at a place of it.
+fn no_digit(rt: &impl Print, name: &[u8], place: u64, length: u64) -> io::Result<bool>
+    ensures { Judged result false }
+{
+    wrong(rt, name)?;
+    terminal::say(rt, b"character ")?;
+    terminal::say_number(rt, place)?;
+    terminal::say(rt, b" of ")?;
+    terminal::say_number(rt, length)?;
+    terminal::say(rt, b" is no hex digit\n")?;
+    Ok(false)
+}
+
+// Why a word is no hex: how many digits it has.
+fn odd(rt: &impl Print, name: &[u8], digits: u64) -> io::Result<bool>
+    ensures { Judged result false }
+{
+    wrong(rt, name)?;
+    terminal::say_number(rt, digits)?;
+    terminal::say(rt, b" hex digits, an odd count\n")?;
+    Ok(false)
+}
+
 // Whether a word is hex, or the mark for nothing; where not, it is said why.
 pub fn is_hex(rt: &impl Print, text: &[u8], name: &[u8]) -> io::Result<bool>
-    ensures { IfOk result (λ yes. yes ≡ is_hex text.now) }
+    ensures { Judged result (is_hex text.now) }
 {
     if same(text, b"-") {
         return Ok(true);
     }
     let good = digits(text, 16);
     if good < text.len() {
-        wrong(rt, name)?;
-        terminal::say(rt, b"character ")?;
-        terminal::say_number(rt, good as u64 + 1)?;
-        terminal::say(rt, b" of ")?;
-        terminal::say_number(rt, text.len() as u64)?;
-        terminal::say(rt, b" is no hex digit\n")?;
-        return Ok(false);
+        return no_digit(rt, name, good as u64 + 1, text.len() as u64);
     }
     if text.len() % 2 != 0 {
-        wrong(rt, name)?;
-        terminal::say_number(rt, text.len() as u64)?;
-        terminal::say(rt, b" hex digits, an odd count\n")?;
-        return Ok(false);
+        return odd(rt, name, text.len() as u64);
     }
     Ok(true)
 }
 
-// Whether a word is a number up to some largest one; where not, it is said why.
-fn is_number(rt: &impl Print, text: &[u8], name: &[u8], largest: u64) -> io::Result<bool>
-    ensures { IfOk result (λ yes. yes ≡ is_number largest text.now) }
+// Why a word is no number.
+fn no_number(rt: &impl Print, name: &[u8]) -> io::Result<bool>
+    ensures { Judged result false }
 {
-    match read_number(text) {
-        Number::Value(value) => {
-            if value <= largest {
-                return Ok(true);
-            }
-        }
-        Number::NoNumber => {
-            wrong(rt, name)?;
-            terminal::say(
-                rt,
-                b"no number, which is decimal digits, or 0x and hex digits\n",
-            )?;
-            return Ok(false);
-        }
-        Number::TooLarge => {}
-    }
+    wrong(rt, name)?;
+    terminal::say(rt, b"no number, which is decimal digits, or 0x and hex digits\n")?;
+    Ok(false)
+}
+
+// Why a number is too large.
+fn too_large(rt: &impl Print, name: &[u8], largest: u64) -> io::Result<bool>
+    ensures { Judged result false }
+{
     wrong(rt, name)?;
     terminal::say(rt, b"too large, at most ")?;
     terminal::say_number(rt, largest)?;
@@ -72,9 +80,34 @@ fn is_number(rt: &impl Print, text: &[u8], name: &[u8], largest: u64) -> io::Res
     Ok(false)
 }
 
+// Whether a word is a number up to some largest one; where not, it is said why.
+fn is_number(rt: &impl Print, text: &[u8], name: &[u8], largest: u64) -> io::Result<bool>
+    ensures { Judged result (is_number largest text.now) }
+{
+    match read_number(text) {
+        Number::Value(value) => {
+            if value <= largest {
+                return Ok(true);
+            }
+        }
+        Number::NoNumber => return no_number(rt, name),
+        Number::TooLarge => {}
+    }
+    too_large(rt, name, largest)
+}
+
+// Why a word names no side.
+fn no_side(rt: &impl Print, name: &[u8]) -> io::Result<bool>
+    ensures { Judged result false }
+{
+    wrong(rt, name)?;
+    terminal::say(rt, b"neither client nor server\n")?;
+    Ok(false)
+}
+
 // Whether a word names a side; where not, it is said why.
 fn is_side(rt: &impl Print, text: &[u8], name: &[u8]) -> io::Result<bool>
-    ensures { IfOk result (λ yes. yes ≡ is_side text.now) }
+    ensures { Judged result (is_side text.now) }
 {
     if same(text, b"client") {
         return Ok(true);
@@ -82,9 +115,7 @@ fn is_side(rt: &impl Print, text: &[u8], name: &[u8]) -> io::Result<bool>
     if same(text, b"server") {
         return Ok(true);
     }
-    wrong(rt, name)?;
-    terminal::say(rt, b"neither client nor server\n")?;
-    Ok(false)
+    no_side(rt, name)
 }
 
 // Whether a name of the manual asks for a number.
@@ -105,7 +136,7 @@ fn is_count(name: &[u8]) -> bool
 
 // Whether a word is what the manual's name for it asks; where not, it is said why.
 pub fn is_right(rt: &impl Print, text: &[u8], name: &[u8]) -> io::Result<bool>
-    ensures { IfOk result (λ yes. yes ≡ is_right text.now name.now) }
+    ensures { Judged result (is_right text.now name.now) }
 {
     if same(name, b"VERSION") {
         return is_number(rt, text, name, VERSIONS);

@@ -9,10 +9,10 @@ pub returns-then-given-wanted : goal.returns-then-given-wanted
 returns-then-given-wanted g c =
     let given = c.less-given.ensures ∙ ap (λ (n : ℕ). n - 1) c.count.ensures in
     let wanted = c.less-wanted.ensures ∙ ap (λ (n : ℕ). n - 2) c.count-2.ensures in
-    sym (enough-when _ _ _ _ given wanted c.if-given-wanted.true)
+    rw (enough-when _ _ _ _ given wanted c.if-given-wanted.true)
 
 pub returns : goal.returns
 returns g c =
     let given = c.less-given.ensures ∙ ap (λ (n : ℕ). n - 1) c.count.ensures in
     let wanted = c.less-wanted.ensures ∙ ap (λ (n : ℕ). n - 2) c.count-2.ensures in
-    sym (enough-not _ _ _ _ given wanted c.if-given-wanted.false)
+    rw (enough-not _ _ _ _ given wanted c.if-given-wanted.false) c.uneven.ensures

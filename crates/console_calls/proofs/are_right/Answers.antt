@@ -4,6 +4,7 @@ use native.Mathlib.Omega.{arith}
 use borrow.Author.Rules.{rules}
 use borrow.Author.Tests.{not-true, not-false}
 use Rattle.terminal_words.specs.Words.{words_from}
+use Rattle.console.proofs.Judged.{judged-answer, judged-untold}
 use Rattle.console_calls.specs.Calls.{are_right}
 use Rattle.console_calls.proofs.Judging.{right-passed, right-stopped, right_end}
 use Rattle.console_calls.proofs.are_right.Goals as goal
@@ -11,14 +12,23 @@ use Rattle.console_calls.proofs.are_right.Goals as goal
 pub loop-i-init : goal.loop-i-init
 loop-i-init g c = (omega arith, refl)
 
+pub returns-in_err-is_asked : goal.returns-in_err-is_asked
+returns-in_err-is_asked g c =
+    let a = c.args in
+    let l = c.loop-i in
+    let word = c.word.ensures in
+    let name = c.word-in-loop-i.ensures in
+    let told = judged-untold c.is_asked.result _ _ c.in_err-is_asked.was c.is_asked.ensures in
+    rw (sym l.invariant.1 ∙ right-stopped a.line.now a.usage.now c.requires l.i l.invariant.0 (omega arith) word name told) (search rules)
+
 pub returns-then-not-branch : goal.returns-then-not-branch
 returns-then-not-branch g c =
     let a = c.args in
     let l = c.loop-i in
     let word = c.word.ensures in
     let name = c.word-in-loop-i.ensures in
-    let told = sym c.in_ok-is_asked.ensures in
-    sym (right-stopped a.line.now a.usage.now c.requires l.i l.invariant.0 (omega arith) word name (told ∙ c.if-not-branch.true)) ∙ l.invariant.1
+    let told = sym (judged-answer c.is_asked.result _ _ c.in_ok-is_asked.was c.is_asked.ensures) in
+    rw (sym l.invariant.1 ∙ right-stopped a.line.now a.usage.now c.requires l.i l.invariant.0 (omega arith) word name (told ∙ c.if-not-branch.true))
 
 pub loop-i-preserved : goal.loop-i-preserved
 loop-i-preserved g c =
@@ -26,11 +36,11 @@ loop-i-preserved g c =
     let l = c.loop-i in
     let word = c.word.ensures in
     let name = c.word-in-loop-i.ensures in
-    let told = sym c.in_ok-is_asked.ensures in
+    let told = sym (judged-answer c.is_asked.result _ _ c.in_ok-is_asked.was c.is_asked.ensures) in
     (omega arith, sym (right-passed a.line.now a.usage.now c.requires l.i l.invariant.0 (omega arith) word name (told ∙ c.if-not-branch.false)) ∙ l.invariant.1)
 
 pub returns : goal.returns
 returns g c =
     let a = c.args in
     let l = c.loop-i in
-    sym (right_end a.line.now a.usage.now c.requires l.i l.invariant.0 (omega arith)) ∙ l.invariant.1
+    rw (sym l.invariant.1 ∙ right_end a.line.now a.usage.now c.requires l.i l.invariant.0 (omega arith))

@@ -32,4 +32,4 @@ returns g c =
     let initial = sym c.same.ensures ∙ c.if-same.false in
     let early = sym c.same-2.ensures ∙ c.if-same-2.false in
     let handshake = sym c.same-3.ensures ∙ c.if-same-3.false in
-    rw (initial, early, handshake)
+    rw (initial, early, handshake) c.no_level.ensures

@@ -8,4 +8,4 @@ pub returns-then-text-eq-SECRET : goal.returns-then-text-eq-SECRET
 returns-then-text-eq-SECRET g c = rw (secret-whole _ c.if-text-eq-SECRET.true) c.is_hex.ensures
 
 pub returns : goal.returns
-returns g c = sym (secret-not _ c.if-text-eq-SECRET.false)
+returns g c = rw (secret-not _ c.if-text-eq-SECRET.false) c.no_secret.ensures

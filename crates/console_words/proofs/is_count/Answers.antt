@@ -1,6 +1,5 @@
 -- The four names, in their order.
 use mathlib.Core.Path.{sym, ◌∙◌}
-use borrow.Author.Rules.{rules}
 use Rattle.octets.specs.Text.{ascii}
 use Rattle.console_words.specs.Words.{is_count}
 use Rattle.console_words.proofs.is_count.Goals as goal

@@ -1,7 +1,6 @@
 -- The tests on the way say what the word is.
 use mathlib.Core.Path.{sym, ◌∙◌}
 use native.Mathlib.Omega.{arith}
-use borrow.Author.Rules.{rules}
 use Rattle.octets.specs.Text.{ascii}
 use Rattle.console_words.specs.Words.{is_hex}
 use Rattle.console_words.proofs.Hex.{hex-not, hex-odd, hex-even}
@@ -13,13 +12,13 @@ returns-then-same g c = rw (sym c.same.ensures ∙ c.if-same.true)
 
 pub returns-then-good-text : goal.returns-then-good-text
 unfolding ascii
-returns-then-good-text g c = sym (hex-not _ (sym c.same.ensures ∙ c.if-same.false) (omega arith))
+returns-then-good-text g c = rw (hex-not _ (sym c.same.ensures ∙ c.if-same.false) (omega arith)) c.no_digit.ensures
 
 pub returns-then-text-ne0 : goal.returns-then-text-ne0
 unfolding ascii
 returns-then-text-ne0 g c =
-    sym (hex-odd _ (sym c.same.ensures ∙ c.if-same.false) (omega arith) c.if-text-ne0.true)
+    rw (hex-odd _ (sym c.same.ensures ∙ c.if-same.false) (omega arith) c.if-text-ne0.true) c.odd.ensures
 
 pub returns : goal.returns
 unfolding ascii
-returns g c = sym (hex-even _ (sym c.same.ensures ∙ c.if-same.false) (omega arith) c.if-text-ne0.false)
+returns g c = rw (hex-even _ (sym c.same.ensures ∙ c.if-same.false) (omega arith) c.if-text-ne0.false)

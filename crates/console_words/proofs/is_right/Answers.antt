@@ -1,6 +1,5 @@
 -- The names, in their order.
 use mathlib.Core.Path.{sym, ◌∙◌}
-use borrow.Author.Rules.{rules}
 use Rattle.octets.specs.Text.{ascii}
 use Rattle.console_words.specs.Words.{is_right}
 use Rattle.console_words.proofs.is_right.Goals as goal

@@ -1,6 +1,5 @@
 -- The two tests, in their order.
 use mathlib.Core.Path.{sym, ◌∙◌}
-use borrow.Author.Rules.{rules}
 use Rattle.octets.specs.Text.{ascii}
 use Rattle.console_words.specs.Words.{is_side}
 use Rattle.console_words.proofs.is_side.Goals as goal
@@ -23,4 +22,4 @@ unfolding is_side ascii
 returns g c =
     let client = sym c.same.ensures ∙ c.if-same.false in
     let server = sym c.same-2.ensures ∙ c.if-same-2.false in
-    rw (client, server)
+    rw (client, server) c.no_side.ensures

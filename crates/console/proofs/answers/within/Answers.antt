@@ -1,7 +1,6 @@
 -- The two tests say whether the part is there.
 use mathlib.Core.Path.{sym}
 use native.Mathlib.Omega.{arith}
-use borrow.Author.Rules.{rules}
 use Rattle.console.proofs.Judging.{outside, there}
 use Rattle.console.proofs.answers.within.Goals as goal
 

@@ -2,7 +2,6 @@
 use mathlib.Core.List.{List}
 use mathlib.Core.Path.{ap, ◌∙◌}
 use Prim.Native.Nat.{ℕ}
-use borrow.Author.Rules.{rules}
 use Rattle.digits_numbers.specs.Numbers.{number_of}
 use Rattle.console.specs.Fields.{value_or0}
 use Rattle.console.proofs.fields.number.Goals as goal

@@ -1,6 +1,5 @@
 -- Each way the number was read.
 use mathlib.Core.Path.{sym, ap, ◌∙◌}
-use borrow.Author.Rules.{rules}
 use Rattle.console.specs.Fields.{value_or0}
 use Rattle.console.proofs.fields.value.Goals as goal
 

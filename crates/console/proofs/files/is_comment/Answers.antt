@@ -1,6 +1,5 @@
 -- The tests on the way say what the line is.
 use mathlib.Core.Path.{sym, ◌∙◌}
-use borrow.Author.Rules.{rules}
 use Rattle.terminal_words.proofs.Lists.{some-character}
 use Rattle.console.proofs.Judging.{comment-blank, comment-by}
 use Rattle.console.proofs.files.is_comment.Goals as goal

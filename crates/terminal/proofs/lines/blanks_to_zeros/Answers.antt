@@ -1,10 +1,6 @@
-use Prim.Native.Nat.{◌-◌, ◌≤◌}
-use mathlib.Core.List.{◌++◌}
-use mathlib.Core.Path.{◌≡◌, refl, sym, ◌∙◌}
+use mathlib.Core.Path.{refl, sym, ◌∙◌}
 use native.Mathlib.Omega.{arith}
-use borrow.Author.Rules.{rules}
-use lib.ListN.{length-set, length, take, drop}
-use Rattle.terminal.specs.Blanks.{zeroed}
+use lib.ListN.{length-set}
 use Rattle.terminal.proofs.Blanks.{zero_turn, zero-ends}
 use Rattle.terminal.proofs.lines.blanks_to_zeros.Goals as goal
 

@@ -1,12 +1,9 @@
 -- The front is without blanks, and the rest will be.
 use Prim.Native.Nat.{◌-◌, ◌≤◌}
 use mathlib.Core.List.{◌++◌}
-use mathlib.Core.Path.{◌≡◌, refl, sym, ◌∙◌}
-use native.Mathlib.Omega.{arith}
-use borrow.Author.Rules.{rules}
-use lib.ListN.{length-set, length, take, drop}
+use mathlib.Core.Path.{◌≡◌}
+use lib.ListN.{length, take, drop}
 use Rattle.terminal.specs.Blanks.{zeroed}
-use Rattle.terminal.proofs.Blanks.{zero_turn, zero-ends}
 use Rattle.terminal.proofs.lines.blanks_to_zeros.Given as goal
 
 abbrev pub invariant-loop-i : goal.invariant-loop-i

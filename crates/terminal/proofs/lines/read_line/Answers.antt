@@ -1,8 +1,7 @@
-use Prim.Native.Nat.{◌-◌, ◌≤◌}
-use mathlib.Core.Path.{◌≡◌, sym}
+use mathlib.Core.Path.{sym}
 use native.Mathlib.Omega.{arith}
 use borrow.Author.Rules.{rules}
-use lib.ListN.{length-set, length}
+use lib.ListN.{length-set}
 use lib.Seq.{length-take-le}
 use Rattle.terminal.proofs.lines.read_line.Goals as goal
 
