@@ -65,7 +65,10 @@ fn no_number(rt: &impl Print, name: &[u8]) -> io::Result<bool>
     ensures { Judged result false }
 {
     wrong(rt, name)?;
-    terminal::say(rt, b"no number, which is decimal digits, or 0x and hex digits\n")?;
+    terminal::say(
+        rt,
+        b"no number, which is decimal digits, or 0x and hex digits\n",
+    )?;
     Ok(false)
 }
 

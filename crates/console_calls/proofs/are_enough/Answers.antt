@@ -1,7 +1,6 @@
 -- Both counts are compared.
 use Prim.Native.Nat.{ℕ, ◌-◌}
-use mathlib.Core.Path.{sym, ap, ◌∙◌}
-use borrow.Author.Rules.{rules}
+use mathlib.Core.Path.{ap, ◌∙◌}
 use Rattle.console_calls.proofs.Judging.{enough-when, enough-not}
 use Rattle.console_calls.proofs.are_enough.Goals as goal
 

@@ -1,11 +1,7 @@
-use Prim.Native.Nat.{◌+◌, ◌-◌, ◌≤◌}
-use mathlib.Core.Path.{◌≡◌, refl, sym, ◌∙◌}
+use mathlib.Core.Path.{refl, sym, ◌∙◌}
 use native.Mathlib.Omega.{arith}
 use borrow.Author.Rules.{rules}
-use borrow.Author.Tests.{not-true, not-false}
-use Rattle.terminal_words.specs.Words.{words_from}
 use Rattle.console.proofs.Judged.{judged-answer, judged-untold}
-use Rattle.console_calls.specs.Calls.{are_right}
 use Rattle.console_calls.proofs.Judging.{right-passed, right-stopped, right_end}
 use Rattle.console_calls.proofs.are_right.Goals as goal
 

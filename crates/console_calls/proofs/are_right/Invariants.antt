@@ -1,12 +1,8 @@
 -- The words passed are what their names ask.
 use Prim.Native.Nat.{◌+◌, ◌-◌, ◌≤◌}
-use mathlib.Core.Path.{◌≡◌, refl, sym, ◌∙◌}
-use native.Mathlib.Omega.{arith}
-use borrow.Author.Rules.{rules}
-use borrow.Author.Tests.{not-true, not-false}
+use mathlib.Core.Path.{◌≡◌}
 use Rattle.terminal_words.specs.Words.{words_from}
 use Rattle.console_calls.specs.Calls.{are_right}
-use Rattle.console_calls.proofs.Judging.{right-passed, right-stopped, right_end}
 use Rattle.console_calls.proofs.are_right.Given as goal
 
 abbrev pub invariant-loop-i : goal.invariant-loop-i

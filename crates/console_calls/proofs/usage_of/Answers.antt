@@ -1,9 +1,5 @@
-use Prim.Native.Nat.{◌-◌}
-use mathlib.Core.Path.{◌≡◌, refl, sym, ◌∙◌}
+use mathlib.Core.Path.{refl, sym, ◌∙◌}
 use native.Mathlib.Omega.{arith}
-use borrow.Author.Rules.{rules}
-use Rattle.terminal_words.specs.Words.{words_from}
-use Rattle.console_calls.specs.Calls.{usage_among, usage_of}
 use Rattle.console_calls.proofs.Judging.{usage-found, usage-passed, usage-none}
 use Rattle.console_calls.proofs.usage_of.Goals as goal
 

@@ -1,11 +1,8 @@
 -- The lines passed are on other commands.
 use Prim.Native.Nat.{◌-◌}
-use mathlib.Core.Path.{◌≡◌, refl, sym, ◌∙◌}
-use native.Mathlib.Omega.{arith}
-use borrow.Author.Rules.{rules}
+use mathlib.Core.Path.{◌≡◌}
 use Rattle.terminal_words.specs.Words.{words_from}
 use Rattle.console_calls.specs.Calls.{usage_among, usage_of}
-use Rattle.console_calls.proofs.Judging.{usage-found, usage-passed, usage-none}
 use Rattle.console_calls.proofs.usage_of.Given as goal
 
 abbrev pub invariant-loop-i : goal.invariant-loop-i

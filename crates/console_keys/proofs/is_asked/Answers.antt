@@ -1,6 +1,5 @@
 -- The names, in their order.
 use mathlib.Core.Path.{sym, ◌∙◌}
-use borrow.Author.Rules.{rules}
 use Rattle.octets.specs.Text.{ascii}
 use Rattle.console_keys.specs.Words.{is_asked}
 use Rattle.console_keys.proofs.is_asked.Goals as goal

@@ -1,9 +1,8 @@
 -- The words between colons are counted, and then judged in their order.
 use mathlib.Core.Path.{sym, ap, ◌∙◌}
 use borrow.Author.Rules.{rules}
-use borrow.Author.Tests.{not-true, not-false}
 use Rattle.console.proofs.Judged.{judged-answer, judged-untold}
-use Rattle.console_keys.specs.Words.{is_level, is_secret}
+use Rattle.console_keys.specs.Words.{is_level}
 use Rattle.console_keys.proofs.Judging.{origin-id, origin-not, origin-secret}
 use Rattle.console_keys.proofs.is_origin.Goals as goal
 

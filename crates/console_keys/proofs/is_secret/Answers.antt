@@ -1,6 +1,4 @@
 -- The length is compared, and then the digits.
-use mathlib.Core.Path.{sym, ◌∙◌}
-use borrow.Author.Rules.{rules}
 use Rattle.console_keys.proofs.Judging.{secret-whole, secret-not}
 use Rattle.console_keys.proofs.is_secret.Goals as goal
 
