@@ -17,7 +17,7 @@ help: ## this list
 	@echo "make demo and make test are the two commands; README.md says what each needs."
 	@awk -F ':.*## ' '/^[a-z]+:.*## / { printf "  make %-13s %s\n", $$1, $$2 }' Makefile
 
-# Prove the library and wicket, run its demonstration, and show what it wrote: `rt check` has held that to crates/wicket/stdout.
+# Prove the library and wicket, run its demonstration, and show what it wrote: tools/prove has held that to crates/wicket/stdout.
 # A line that is longer than the screen is cut, and says so by its end.
 demo: kit ## prove the library and wicket, and show the papers' packets, a receiver and every refusal
 	@echo "Proving the library and wicket, and running its demonstration (some minutes the first time) ..."
@@ -30,12 +30,12 @@ demo: kit ## prove the library and wicket, and show the papers' packets, a recei
 	@tools/wicket-status
 	@echo "A call of your own: tools/wicket keys 1 8394c8f03e515708 client"
 
-# The gate: the layout, the names that the documents cite, the library against the second program and from Rust; then every
-# proof, every edit that must be refused and every program, from nothing. `rt ci` stays the last command: its last line is
-# the verdict. It empties target/, and build/libdriftwicket.a stays.
+# The gate: the names that the documents cite, the library against the second program and from Rust; then every proof, every
+# edit that must be refused, every program and the layout. `rt ci` stays the last command: its last line is the verdict.
+# What it passed on this machine it keeps, and proves from nothing only what has changed since, and what stands above that.
 test: kit cargo layout lib second rust ## the gate: everything, from nothing
-	@echo "Proving every crate from nothing, trying every edit, running every program ..."
-	@tools/alone rt ci
+	@echo "Proving every crate, trying every edit, running every program ..."
+	@tools/alone tools/gate
 
 # The static library for C and for Rust, for the machine at hand. Its header is include/driftwicket.h.
 lib: ## build/libdriftwicket.a, the library for C and Rust; nothing is done where it is current
@@ -58,9 +58,7 @@ rust: cargo lib ## the library from Rust: its tests and the examples of its docu
 	@echo "Testing the library from Rust ..."
 	@cd rust && $(cargo) test --target-dir ../build/rust
 
-layout: kit ## whether the sources are in the kit's layout, and the documents and contracts in ours
-	@echo "Checking the layout ..."
-	@rt fmt --check
+layout: kit ## whether the names that the documents cite are there, and the contracts in our form
 	@echo "Checking the names that the documents cite ..."
 	@tools/trace
 
@@ -103,4 +101,4 @@ interop-needs:
 	@interop/run --needs
 
 clean: ## remove all that was made
-	@rm -rf build target second/target rust/target
+	@rm -rf build crates/*/out second/target rust/target

@@ -1,5 +1,6 @@
 // The mixing of a state's columns (FIPS 197 section 5.1.3).
 #![tactic(auto)]
+
 ghost use Rattle.std.specs.Prelude.{◌≡◌, get_or};
 ghost use Rattle.aes_s_box.specs.Field.{x_times};
 ghost use Rattle.aes_state.specs.State.{row};

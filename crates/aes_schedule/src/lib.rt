@@ -1,5 +1,6 @@
 // The key schedule (FIPS 197 section 5.2): 44 words of four bytes, one after the other.
 #![tactic(auto)]
+
 ghost use Rattle.std.specs.Prelude.{◌≡◌, ◌%◌, ◌≤◌, ◌<◌, length, eqb};
 ghost use Rattle.aes_s_box.specs.Box.{Box};
 ghost use Rattle.aes_schedule.specs.Expansion.{word, rot_word, Powers, rcon, turned, next_word, expansion};

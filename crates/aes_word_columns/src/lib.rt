@@ -1,5 +1,6 @@
 // One column of a round on words (FIPS 197 section 5.1). A column of the state is a word, its byte in row 0 the most significant.
 #![tactic(auto)]
+
 ghost use Rattle.std.specs.Prelude.{◌≡◌};
 ghost use Rattle.octets.specs.Octets.{bytes};
 ghost use Rattle.aes_s_box.specs.Box.{Box};

@@ -1,5 +1,6 @@
 // AES-128 on words (FIPS 197 section 5.1): the rounds on four columns, by a table; of one block, and of two side by side.
 #![tactic(auto)]
+
 ghost use Rattle.std.specs.Prelude.{◌≡◌, ◌++◌, ◌≤◌, length};
 ghost use Rattle.aes_s_box.specs.Box.{Box};
 ghost use Rattle.aes_state.specs.State.{input as input_of, output as output_of, sub_bytes, add_round_key};

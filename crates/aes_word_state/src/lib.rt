@@ -1,11 +1,12 @@
 // A state as four columns (FIPS 197 section 3.4), and a round key added to it (section 5.1.4).
 #![tactic(auto)]
+
 ghost use Rattle.std.specs.Prelude.{◌≡◌, length};
 ghost use Rattle.aes_state.specs.State.{output as output_of, add_round_key};
 ghost use Rattle.aes_word_state.specs.Columns.{spelt, state_of};
 
 // The four columns of a state.
-#[derive(Drop)]
+#[derive(Clone, Copy)]
 pub struct Columns {
     pub a: u32,
     pub b: u32,

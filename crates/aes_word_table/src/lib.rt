@@ -1,5 +1,6 @@
 // The table of a round on words: the S-box and what its byte gives to a mixed column, together (FIPS 197 sections 5.1.1 and 5.1.3).
 #![tactic(auto)]
+
 ghost use Rattle.aes_word_table.specs.Table.{Mixing};
 
 // The entry at b, its bytes from the most significant on: the S-box's byte of b times {02}, {01}, {01} and {03}.

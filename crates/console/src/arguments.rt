@@ -5,7 +5,7 @@ ghost use Rattle.std.specs.Counts.{IsPrefixLen};
 use std::env::{Env, FillError};
 
 // A line of words, each ended by a zero: how long it is; and the argument for which there was no room, or 0.
-#[derive(Drop)]
+#[derive(Clone, Copy)]
 pub struct Gathered {
     pub too_long: usize,
     pub length: usize,

@@ -7,7 +7,7 @@ ghost use Rattle.digits_numbers.specs.Numbers.{fitting, number_in, marked, numbe
 use digits_reading::{digits, value};
 
 // What a text is as a number: its value; none, where it is empty or has a character that is no digit; or one of more than 64 bits.
-#[derive(Drop)]
+#[derive(Clone, Copy)]
 pub enum Number {
     Value(u64),
     NoNumber,

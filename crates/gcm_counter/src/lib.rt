@@ -1,5 +1,6 @@
 // Counter mode (SP 800-38D sections 6.2 and 6.5), and the text under it (section 7.1, steps 2 and 3). Two blocks go at a time.
 #![tactic(auto)]
+
 ghost use Rattle.std.specs.Prelude.{◌≡◌, ◌+◌, ◌<◌, ◌≤◌, ◌++◌, length};
 ghost use Rattle.octets.specs.Octets.{bytes, laid};
 ghost use Rattle.aes_s_box.specs.Box.{Box};

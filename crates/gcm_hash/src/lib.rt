@@ -1,5 +1,6 @@
 // GHASH as a stream (SP 800-38D section 6.4): its bytes come in pieces, and the state goes in by value and comes back.
 #![tactic(auto)]
+
 ghost use Rattle.std.specs.Prelude.{◌≡◌, ◌+◌, ◌*◌, ◌^◌, ◌<◌, ◌≤◌, length};
 ghost use Rattle.octets.specs.Octets.{number, part};
 ghost use Rattle.gcm_field.specs.Field.{num};
@@ -10,7 +11,7 @@ use gcm_field::{Block, add};
 use gcm_product::times;
 
 // GHASH on its way: Y with the bytes of the present block added, and how many those are.
-#[derive(Drop)]
+#[derive(Clone, Copy)]
 pub struct Ghash {
     pub y: Block,
     pub filled: usize,
@@ -75,7 +76,7 @@ pub fn load_block(bytes: &[u8], at: usize) -> Block
 }
 
 // A state, and how far it has come in a slice.
-#[derive(Drop)]
+#[derive(Clone, Copy)]
 struct Reached {
     g: Ghash,
     at: usize,

@@ -1,5 +1,6 @@
 // The product of blocks (SP 800-38D section 6.3), by the table of the hash key.
 #![tactic(auto)]
+
 ghost use Rattle.std.specs.Prelude.{◌≡◌, ◌/◌, ◌%◌, ◌^◌, ◌<◌, ◌≤◌};
 ghost use Rattle.gcm_field.specs.Field.{num, nexts, ◌•◌};
 ghost use Rattle.gcm_table.specs.Table.{entry_of, key_of, Table};

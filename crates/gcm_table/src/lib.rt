@@ -1,5 +1,6 @@
 // The table by which a hash key multiplies (SP 800-38D section 6.3).
 #![tactic(auto)]
+
 ghost use Rattle.std.specs.Prelude.{◌≡◌, ℕ, ◌+◌, ◌*◌, ◌%◌, ◌<◌, ◌≤◌, length, set};
 ghost use Rattle.std.specs.Int.Bits.{bit_xor};
 ghost use Rattle.gcm_field.specs.Field.{num, nexts};

@@ -1,5 +1,6 @@
 // RFC 9000 sections 16 and 17.2: where a field of a long header stands, in the order of docs/SCOPE.md, "Order of refusals".
 #![tactic(auto)]
+
 ghost use Rattle.std.specs.Prelude.{◌≡◌, ◌+◌, ◌≤◌, length};
 ghost use Rattle.octets.specs.Octets.{part};
 ghost use Rattle.header_fields.specs.Fields.{id_at, integer_at, field_at, rest_at};
@@ -18,14 +19,14 @@ pub const TAG_LENGTH: usize = 16;
 const LEAST_LENGTH: usize = 20;
 
 // Where something stands in the datagram.
-#[derive(Drop)]
+#[derive(Clone, Copy)]
 pub struct Place {
     pub at: usize,
     pub len: usize,
 }
 
 // Where a field stands, or why it does not.
-#[derive(Drop)]
+#[derive(Clone, Copy)]
 pub enum Found {
     Refused(u8),
     At(Place),

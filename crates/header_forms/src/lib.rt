@@ -1,5 +1,6 @@
 // The first byte, by the form of the header: RFC 9000 section 17.2, and RFC 9001 section 5.4.1 for what is masked of it.
 #![tactic(auto)]
+
 ghost use Rattle.std.specs.Prelude.{◌≡◌, ◌^◌};
 ghost use Rattle.header_forms.specs.Rules.{in_force};
 ghost use Rattle.header_forms.specs.Forms.{masked_first, reserved_bits, formed};
@@ -11,13 +12,13 @@ use octets::refusal;
 pub const LIMIT: usize = 1500;
 
 // The forms of header.
-#[derive(Drop)]
+#[derive(Clone, Copy)]
 pub enum Form {
     Long,
 }
 
 // What judging a datagram's form answers: a refusal's number, or that it is right.
-#[derive(Drop)]
+#[derive(Clone, Copy)]
 pub enum Formed {
     Refused(u8),
     Right,

@@ -1,5 +1,6 @@
 // RFC 9000 section 17.2: what every long header begins with, read field by field in the order of docs/SCOPE.md, "Order of refusals".
 #![tactic(auto)]
+
 ghost use Rattle.std.specs.Prelude.{◌≡◌};
 ghost use Rattle.versions.specs.Versions as Constants;
 ghost use Rattle.versions.specs.Answers.{level_answer};
@@ -11,14 +12,14 @@ use octets::refusal;
 use versions::{Leveled, is_known, level_of, retry_type};
 
 // Which versions a reader takes: every known one, or that of some keys.
-#[derive(Drop)]
+#[derive(Clone, Copy)]
 pub enum Versions {
     Known,
     Only(u32),
 }
 
 // Which packets it takes, by their type: those of any level, of one level alone, or Retry.
-#[derive(Drop)]
+#[derive(Clone, Copy)]
 pub enum Types {
     Leveled,
     Level(u8),
@@ -26,35 +27,35 @@ pub enum Types {
 }
 
 // Who reads a long header.
-#[derive(Drop)]
+#[derive(Clone, Copy)]
 pub struct Judge {
     pub versions: Versions,
     pub types: Types,
 }
 
 // The version that a long header names, or why it names none.
-#[derive(Drop)]
+#[derive(Clone, Copy)]
 enum Version {
     Refused(u8),
     Of(u32),
 }
 
 // A version that is taken, and what the reader takes the type for: a level, or Retry's type for itself.
-#[derive(Drop)]
+#[derive(Clone, Copy)]
 struct Judged {
     version: u32,
     kind: u8,
 }
 
 // What judging both answers.
-#[derive(Drop)]
+#[derive(Clone, Copy)]
 enum Judgement {
     Refused(u8),
     Right(Judged),
 }
 
 // What every long header begins with.
-#[derive(Drop)]
+#[derive(Clone, Copy)]
 pub struct Long {
     pub version: u32,
     pub kind: u8,
@@ -63,7 +64,7 @@ pub struct Long {
 }
 
 // What reading it answers: a refusal's number, or the version, what its type is taken for and the IDs' places.
-#[derive(Drop)]
+#[derive(Clone, Copy)]
 pub enum LongReading {
     Refused(u8),
     Read(Long),

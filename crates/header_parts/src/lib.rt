@@ -1,5 +1,6 @@
 // RFC 9000 sections 17.2.2 to 17.2.4: the parts of a header, handed out as they stand in the datagram.
 #![tactic(auto)]
+
 ghost use Rattle.header_parts.specs.Answers.{HeaderDestination, HeaderSource, HeaderToken};
 
 use header_fields::part_at;

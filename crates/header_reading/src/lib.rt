@@ -1,5 +1,6 @@
 // RFC 9000 sections 17.2.2 to 17.2.4: the header of a packet with a number, read up to it in the order of docs/SCOPE.md, "Order of refusals".
 #![tactic(auto)]
+
 ghost use Rattle.std.specs.Prelude.{◌≡◌, ◌≤◌, length};
 ghost use Rattle.header_long.specs.Answers.{judge_of};
 ghost use Rattle.header_reading.specs.PacketHeader.{token_at, header};
@@ -11,21 +12,21 @@ use header_long::{Judge, LongReading, Types, Versions, read_long};
 use versions::level;
 
 // Where a token stands, and where the fields go on behind it.
-#[derive(Drop)]
+#[derive(Clone, Copy)]
 struct Token {
     place: Place,
     end: usize,
 }
 
 // What looking for a token answers.
-#[derive(Drop)]
+#[derive(Clone, Copy)]
 enum TokenFound {
     Refused(u8),
     At(Token),
 }
 
 // The header of a packet with a number, up to it.
-#[derive(Drop)]
+#[derive(Clone, Copy)]
 pub struct Header {
     pub version: u32,
     pub level: u8,
@@ -37,7 +38,7 @@ pub struct Header {
 }
 
 // What reading a header answers: a refusal's number, or the header.
-#[derive(Drop)]
+#[derive(Clone, Copy)]
 pub enum Reading {
     Refused(u8),
     Read(Header),

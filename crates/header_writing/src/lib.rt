@@ -1,5 +1,6 @@
 // RFC 9000 section 17.2: long headers, written at the start of a lent buffer.
 #![tactic(auto)]
+
 ghost use Rattle.std.specs.Prelude.{◌≡◌, ◌∷◌, ◌+◌, ◌^◌, ◌≤◌, ◌<◌, length};
 ghost use Rattle.octets.specs.Octets.{laid, Begins};
 ghost use Rattle.header_forms.specs.Rules.{in_force};
@@ -10,7 +11,7 @@ use integers_writing::{smallest_form, write_smallest, write_two};
 use versions::level;
 
 // Whether a packet has a field for a token: an Initial has, and no other packet with a number.
-#[derive(Drop)]
+#[derive(Clone, Copy)]
 pub enum TokenField {
     Holding,
     Absent,

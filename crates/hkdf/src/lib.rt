@@ -1,5 +1,6 @@
 // HKDF and the labels of TLS 1.3 with SHA-256, by RFC 5869 and RFC 8446 section 7.1.
 #![tactic(auto)]
+
 ghost use Rattle.std.specs.Prelude.{◌≡◌, ◌+◌, ◌*◌, ◌^◌, ◌≤◌, ◌<◌, length};
 ghost use Rattle.octets.specs.Octets.{begun};
 ghost use Rattle.hkdf.specs.Hkdf.{extract, T, info, expand_label};

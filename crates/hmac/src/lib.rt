@@ -1,5 +1,6 @@
 // HMAC with SHA-256, by RFC 2104.
 #![tactic(auto)]
+
 ghost use Rattle.std.specs.Prelude.{◌≡◌, ◌++◌, ◌+◌, ◌*◌, ◌^◌, ◌≤◌, ◌<◌, length};
 ghost use Rattle.sha256_constants.specs.Constants.{K};
 ghost use Rattle.sha256.specs.Sha256.{hash};

@@ -6,7 +6,7 @@ ghost use Rattle.integers.specs.Answers.{ReadInteger};
 use octets::refusal;
 
 // What reading an integer answers: a refusal's number, or the value and the bytes it took.
-#[derive(Drop)]
+#[derive(Clone, Copy)]
 pub enum Integer {
     Refused(u8),
     Read { value: u64, taken: usize },

@@ -1,5 +1,6 @@
 // RFC 9000 section 16: integers, written into a lent buffer.
 #![tactic(auto)]
+
 ghost use Rattle.std.specs.Prelude.{◌≡◌, ◌+◌, ◌^◌, ◌≤◌, ◌<◌, length};
 ghost use Rattle.octets.specs.Octets.{laid};
 ghost use Rattle.integers_writing.specs.Written.{smallest, two};

@@ -1,6 +1,7 @@
 // RFC 9001 section 5: one sender's keys. Those of Initial packets come of the client's Destination Connection ID, and those of other
 // levels of a secret that TLS hands over.
 #![tactic(auto)]
+
 ghost use Rattle.std.specs.Prelude.{◌≡◌, ◌≤◌, length};
 ghost use Rattle.octets.specs.Outcome as Outcome;
 ghost use Rattle.header_fields.specs.Fields.{longest_id};
@@ -20,14 +21,14 @@ const ZERO_RTT: u32 = level::ZERO_RTT as u32;
 const HANDSHAKE: u32 = level::HANDSHAKE as u32;
 
 // Whose packets the keys protect.
-#[derive(Drop)]
+#[derive(Clone, Copy)]
 pub enum Side {
     Client,
     Server,
 }
 
 // The keys of one sender, or a refusal's number beside a blank record; 0 is no refusal.
-#[derive(Drop)]
+#[derive(Clone, Copy)]
 pub struct MadeKeys {
     pub refused: u8,
     pub keys: Keys,

@@ -1,5 +1,6 @@
 // RFC 9001 section 5.1: a sender's keys, from its secret.
 #![tactic(auto)]
+
 ghost use Rattle.std.specs.Prelude.{◌≡◌, ◌≤◌, length, take};
 ghost use Rattle.hkdf.specs.Hkdf.{expand_label};
 ghost use Rattle.versions.specs.Versions as Versions;
@@ -9,7 +10,7 @@ ghost use Rattle.keys_expansion.specs.Expansion.{label_of, keys_from};
 use protection::Keys;
 
 // What is expanded from a sender's secret.
-#[derive(Drop)]
+#[derive(Clone, Copy)]
 pub enum Part {
     Key,
     Iv,
@@ -17,7 +18,7 @@ pub enum Part {
 }
 
 // A label: its bytes, with blanks to the longest, and how many it has.
-#[derive(Drop)]
+#[derive(Clone, Copy)]
 struct Label([u8; 10], usize);
 
 // The label of a part in a version: section 5.1's, or the draft's.

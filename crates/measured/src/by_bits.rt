@@ -6,7 +6,7 @@ ghost use Rattle.gcm_hash.specs.Hash.{ghash};
 use gcm_field::Block;
 
 // Z and V, on their way through the bits of X.
-#[derive(Drop)]
+#[derive(Clone, Copy)]
 pub struct Walk {
     pub z: Block,
     pub v: Block,

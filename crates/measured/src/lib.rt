@@ -64,8 +64,8 @@ pub extern "C" fn dw_measure_counter(
     text: &[u8],
     out: &mut [u8],
 ) -> u32
-    ensures value { result ≡ answer (streaming schedule.now nonce.now text.now (length out.old)) }
-    ensures out_after { out.new ≡ placed (streaming schedule.now nonce.now text.now (length out.old)) out.old }
+    ensures answered { result ≡ answer (streaming schedule.now nonce.now text.now (length out.old)) }
+    ensures laid { out.new ≡ placed (streaming schedule.now nonce.now text.now (length out.old)) out.old }
 {
     if out.len() < text.len() {
         return 0;
@@ -103,8 +103,8 @@ pub extern "C" fn dw_measure_gcm(
     text: &[u8],
     out: &mut [u8],
 ) -> u32
-    ensures value { result ≡ answer (sealing schedule.now nonce.now associated.now text.now (length out.old)) }
-    ensures out_after { out.new ≡ placed (sealing schedule.now nonce.now associated.now text.now (length out.old)) out.old }
+    ensures answered { result ≡ answer (sealing schedule.now nonce.now associated.now text.now (length out.old)) }
+    ensures laid { out.new ≡ placed (sealing schedule.now nonce.now associated.now text.now (length out.old)) out.old }
 {
     if associated.len() > MOST {
         return 0;

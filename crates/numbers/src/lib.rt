@@ -5,9 +5,9 @@
 pub const NUMBERS: u64 = 1 << 62;
 
 // A number as it stands on the wire, in one to four bytes.
-#[derive(Drop)]
+#[derive(Clone, Copy)]
 pub struct TruncatedPn(pub u64);
 
 // A number as the sender counts it and the receiver recovers it.
-#[derive(Drop)]
+#[derive(Clone, Copy)]
 pub struct FullPn(pub u64);

@@ -1,5 +1,6 @@
 // RFC 9000 appendix A.3: the full number that a short one stands for.
 #![tactic(auto)]
+
 ghost use Rattle.std.specs.Prelude.{◌≡◌, ◌≤◌, ◌<◌};
 ghost use Rattle.numbers.specs.Numbers.{numbers, window};
 ghost use Rattle.numbers_recovery.specs.Recovery.{decoded};
@@ -9,7 +10,7 @@ use numbers::{FullPn, NUMBERS, TruncatedPn};
 use octets::refusal;
 
 // A number made full again.
-#[derive(Drop)]
+#[derive(Clone, Copy)]
 pub enum Recovered {
     Refused(u8),
     Full(FullPn),

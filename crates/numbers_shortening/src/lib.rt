@@ -1,5 +1,6 @@
 // RFC 9000 section 17.1: the number that is sent, in the fewest bytes that tell it apart.
 #![tactic(auto)]
+
 ghost use Rattle.std.specs.Prelude.{◌≡◌};
 ghost use Rattle.numbers_shortening.specs.Shortening.{coverable, gap};
 ghost use Rattle.numbers_shortening.specs.Answers.{acknowledged_of, gap_answer, SmallestLength, Shorten};
@@ -11,28 +12,28 @@ use octets::refusal;
 const UNCOVERED: u64 = 1 << 31;
 
 // The greatest number that the other side has acknowledged.
-#[derive(Drop)]
+#[derive(Clone, Copy)]
 pub enum Acknowledged {
     Nothing,
     UpTo(FullPn),
 }
 
 // How far a number stands above the greatest acknowledged.
-#[derive(Drop)]
+#[derive(Clone, Copy)]
 pub enum Gap {
     Refused(u8),
     Of(u64),
 }
 
 // The smallest length, in bytes, for a number.
-#[derive(Drop)]
+#[derive(Clone, Copy)]
 pub enum Smallest {
     Refused(u8),
     Bytes(usize),
 }
 
 // A number made short.
-#[derive(Drop)]
+#[derive(Clone, Copy)]
 pub enum Shortened {
     Refused(u8),
     Short(TruncatedPn),

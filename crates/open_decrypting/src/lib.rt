@@ -15,7 +15,7 @@ use open_writing::{Opened, write_opened};
 use protection::Keys;
 
 // What opening answers: a refusal's number, or what was opened.
-#[derive(Drop)]
+#[derive(Clone, Copy)]
 pub enum Opening {
     Refused(u8),
     Opened(Opened),

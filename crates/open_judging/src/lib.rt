@@ -1,5 +1,6 @@
 // Opening, as far as the tag: the long header is read and what stands under the mask is found, each judged in the order of docs/SCOPE.md, "Order of refusals".
 #![tactic(auto)]
+
 ghost use Rattle.protection.specs.KeyRecord.{keys_of};
 ghost use Rattle.open_judging.specs.Found.{Finds};
 

@@ -1,5 +1,6 @@
 // Opening, RFC 9001 section 5.4 undone: what stands under the mask, judged as far as the tag, for any form of header.
 #![tactic(auto)]
+
 ghost use Rattle.header_forms.specs.Answers.{form_of};
 ghost use Rattle.protection.specs.KeyRecord.{keys_of};
 ghost use Rattle.open_revealing.specs.Revealing.{Placed, Reveals};
@@ -11,7 +12,7 @@ use open_unmasking::{Packet, unmask};
 use protection::Keys;
 
 // What was found in a datagram, before its tag is judged.
-#[derive(Drop)]
+#[derive(Clone, Copy)]
 pub enum Finding {
     Refused(u8),
     Found(Packet),

@@ -1,5 +1,6 @@
 // Opening, RFC 9001 section 5.3: a packet's tag, compared.
 #![tactic(auto)]
+
 ghost use Rattle.open_unmasking.specs.Parts.{Within};
 ghost use Rattle.open_tag.specs.Matching.{Matches};
 

@@ -1,5 +1,6 @@
 // Opening, RFC 9001 section 5.4: the mask taken off, and what a packet is without it.
 #![tactic(auto)]
+
 ghost use Rattle.std.specs.Prelude.{◌+◌, ◌≤◌, length};
 ghost use Rattle.header_forms.specs.Answers.{form_of};
 ghost use Rattle.protection.specs.KeyRecord.{keys_of};
@@ -10,7 +11,7 @@ use numbers::{FullPn, TruncatedPn};
 use protection::Keys;
 
 // Without the mask: the first byte, and the short number with the count of its bytes.
-#[derive(Drop)]
+#[derive(Clone, Copy)]
 pub struct Bare {
     pub first: u8,
     pub count: usize,
@@ -19,7 +20,7 @@ pub struct Bare {
 
 // A packet whose tag is still to be judged: without the mask, its first byte, its number as it stands there in `count` bytes and
 // the full one; where it stands, and how many bytes the packet has from there on.
-#[derive(Drop)]
+#[derive(Clone, Copy)]
 pub struct Packet {
     pub first: u8,
     pub count: usize,

@@ -1,5 +1,6 @@
 // Opening, RFC 9001 section 5.3: a packet whose tag is right, written out, and what is said of it.
 #![tactic(auto)]
+
 ghost use Rattle.std.specs.Prelude.{◌+◌, ◌≤◌, length};
 ghost use Rattle.open_unmasking.specs.Parts.{Within};
 ghost use Rattle.open_writing.specs.Written.{Writes};
@@ -10,7 +11,7 @@ use open_unmasking::Packet;
 
 // What was opened: the full number and its length, the header's length with the number in it, the payload's length, and how many of
 // the datagram's bytes the packet took.
-#[derive(Drop)]
+#[derive(Clone, Copy)]
 pub struct Opened {
     pub number: FullPn,
     pub number_length: usize,

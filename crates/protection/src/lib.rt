@@ -1,11 +1,12 @@
 // RFC 9001 sections 5.3 and 5.4: one sender's keys, and the parts of protection that sealing and opening share.
 #![tactic(auto)]
+
 ghost use Rattle.std.specs.Prelude.{◌≡◌, ◌+◌, ◌≤◌, length};
 ghost use Rattle.aes_byte_rounds.specs.Cipher.{cipher};
 ghost use Rattle.protection.specs.Protection.{nonce, sample_of};
 
 // One sender's keys, of one version and level.
-#[derive(Drop)]
+#[derive(Clone, Copy)]
 pub struct Keys {
     pub version: u32,
     pub level: u8,

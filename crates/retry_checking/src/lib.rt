@@ -1,5 +1,6 @@
 // Retry packets, checked: RFC 9000 section 17.2.5 and RFC 9001 section 5.8.
 #![tactic(auto)]
+
 ghost use Rattle.std.specs.Prelude.{◌≡◌, ◌≤◌, length};
 ghost use Rattle.header_forms.specs.Rules.{in_force};
 ghost use Rattle.header_fields.specs.Answers.{found_answer};
@@ -14,7 +15,7 @@ use octets::refusal;
 use retry_tag::tag_of;
 
 // The version of a Retry that was checked, and where its parts stand.
-#[derive(Drop)]
+#[derive(Clone, Copy)]
 pub struct RetryFields {
     pub version: u32,
     pub destination: Place,
@@ -23,7 +24,7 @@ pub struct RetryFields {
 }
 
 // What checking answers: a refusal's number, or the fields.
-#[derive(Drop)]
+#[derive(Clone, Copy)]
 pub enum Checking {
     Refused(u8),
     Checked(RetryFields),

@@ -1,5 +1,6 @@
 // RFC 9000 section 17.2.5: the parts of a Retry that is accepted, handed out as they stand in the datagram.
 #![tactic(auto)]
+
 ghost use Rattle.retry_parts.specs.Answers.{RetryDestination, RetrySource, RetryToken};
 
 use header_fields::part_at;

@@ -1,5 +1,6 @@
 // The tag of a Retry: RFC 9001 section 5.8.
 #![tactic(auto)]
+
 ghost use Rattle.std.specs.Prelude.{◌≡◌, ◌≤◌, length};
 ghost use Rattle.header_forms.specs.Rules.{in_force};
 ghost use Rattle.header_fields.specs.Fields.{longest_id};

@@ -1,5 +1,6 @@
 // Retry packets, written: RFC 9000 section 17.2.5.
 #![tactic(auto)]
+
 ghost use Rattle.octets.specs.Octets.{Begins};
 ghost use Rattle.retry_tag.specs.Tag.{tagged};
 ghost use Rattle.retry_writing.specs.Written.{untagged};
@@ -11,7 +12,7 @@ use octets::refusal;
 use retry_tag::tag_of;
 
 // What writing answers: a refusal's number, or the packet's length.
-#[derive(Drop)]
+#[derive(Clone, Copy)]
 pub enum Writing {
     Refused(u8),
     Written(usize),

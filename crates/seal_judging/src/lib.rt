@@ -1,5 +1,6 @@
 // Sealing, as far as nothing is written: what is asked is judged in the order of docs/SCOPE.md, "Order of refusals".
 #![tactic(auto)]
+
 ghost use Rattle.std.specs.Prelude.{◌≡◌, ◌+◌, ◌≤◌, length};
 ghost use Rattle.octets.specs.Octets.{length_given};
 ghost use Rattle.numbers_shortening.specs.Answers.{acknowledged_of};
@@ -20,7 +21,7 @@ use octets::refusal;
 use protection::Keys;
 
 // What sealing answers: a refusal's number, or the packet's length.
-#[derive(Drop)]
+#[derive(Clone, Copy)]
 pub enum Sealing {
     Refused(u8),
     Written(usize),

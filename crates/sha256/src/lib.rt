@@ -1,6 +1,7 @@
 // SHA-256, by FIPS 180-4: the hash of a message, at once or on from a hash value after whole blocks. The round constants are lent,
 // for a constant table is copied wherever it is used: a caller makes them once for all that it hashes.
 #![tactic(auto)]
+
 ghost use Rattle.std.specs.Prelude.{◌≡◌, ◌++◌, ◌+◌, ◌*◌, ◌%◌, ◌^◌, ◌<◌, length};
 ghost use Rattle.sha256_constants.specs.Constants.{K};
 ghost use Rattle.sha256_padding.specs.Padding.{padding};

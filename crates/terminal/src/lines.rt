@@ -22,7 +22,7 @@ pub enum Step<R> {
 }
 
 // How reading a line went.
-#[derive(Drop)]
+#[derive(Clone, Copy)]
 pub enum Ending {
     Whole,
     TooLong,

@@ -37,7 +37,7 @@ const RETRY_NONCE_1: [u8; 12] = *b"\x46\x15\x99\xd3\x5d\x63\x2b\xf2\x23\x98\x25\
 const RETRY_NONCE_2: [u8; 12] = *b"\x14\x1b\x99\xc2\x39\xb0\x3e\x78\x5d\x6a\x2e\x9f";
 
 // The level that a packet type is of; Retry is of none.
-#[derive(Drop)]
+#[derive(Clone, Copy)]
 pub enum Leveled {
     Refused(u8),
     Of(u8),

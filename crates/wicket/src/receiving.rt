@@ -15,7 +15,7 @@ use wicket_words::keys_of;
 const SHOWN: usize = 16;
 
 // What has come so far: datagrams that were opened and refused, and lines that could not be read.
-#[derive(Drop)]
+#[derive(Clone, Copy)]
 struct Tally {
     opened: u64,
     refused: u64,

@@ -1,12 +1,8 @@
 -- What is left to read from the value so far gives the number of all bytes; the value so far fits the bytes read.
-use Prim.Native.Nat.{◌+◌, ◌-◌, ◌*◌, ◌^◌, ◌≤◌, ◌<◌}
-use mathlib.Core.Path.{◌≡◌, refl, sym, ap, ◌∙◌}
-use borrow.Author.Rules.{rules}
-use native.Mathlib.Omega.{arith}
-use lib.ListN.{length, drop, drop_of_length-le}
-use lib.Pow.{pow_mono, pow-add}
-use Rattle.octets.specs.Octets.{number}
-use Rattle.octets.proofs.Numbers.{read_on, read-turn}
+use Prim.Native.Nat.{◌-◌, ◌*◌, ◌^◌, ◌≤◌, ◌<◌}
+use mathlib.Core.Path.{◌≡◌}
+use lib.ListN.{length, drop}
+use Rattle.octets.proofs.Numbers.{read_on}
 use Rattle.octets.proofs.load.Given as goal
 
 abbrev pub invariant-loop-i : goal.invariant-loop-i

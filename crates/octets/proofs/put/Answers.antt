@@ -1,5 +1,4 @@
 -- One element stored is a list of one laid over.
-use borrow.Author.Rules.{rules}
 use Rattle.octets.proofs.Buffers.{lay-one}
 use Rattle.octets.proofs.put.Goals as goal
 

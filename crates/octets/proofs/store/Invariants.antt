@@ -1,13 +1,9 @@
 -- After i turns the first i bytes of the number are laid over the buffer.
 use Prim.Native.Nat.{◌-◌, ◌≤◌}
-use mathlib.Core.Path.{◌≡◌, refl, sym, ap, ◌∙◌}
-use borrow.Author.Rules.{rules}
-use native.Mathlib.Omega.{arith}
-use lib.ListN.{length, length-set}
-use lib.Seq.{paste, paste-zero}
+use mathlib.Core.Path.{◌≡◌}
+use lib.ListN.{length}
+use lib.Seq.{paste}
 use Rattle.octets.specs.Octets.{bytes}
-use Rattle.octets.proofs.Numbers.{bytes-length, byte-is}
-use Rattle.octets.proofs.Buffers.{lay-turn, lay-end}
 use Rattle.octets.proofs.store.Given as goal
 
 abbrev pub invariant-loop-i : goal.invariant-loop-i

@@ -1,6 +1,5 @@
 -- Each byte is below 256, so that the sums fit; together they are the number that the four bytes spell.
 use Prim.Native.Nat.{◌+◌}
-use borrow.Author.Rules.{rules}
 use native.Mathlib.Omega.{arith}
 use Rattle.octets.proofs.Numbers.{four_bytes}
 use Rattle.octets.proofs.word.Goals as goal

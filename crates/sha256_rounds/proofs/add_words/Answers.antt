@@ -1,4 +1,3 @@
-
 use Rattle.std.proofs.Common.{◌≡◌, ◌-◌, ◌≤◌, length, arith, length-set, rules}
 use Rattle.octets.proofs.Rule.{Filled, filled_more}
 use Rattle.sha256_rounds.proofs.Sums.{sum_at, added_is}
@@ -10,11 +9,11 @@ loop-i-init c = (omega arith, search rules, λ j k. omega arith)
 pub loop-i-preserved : goal.loop-i-preserved
 loop-i-preserved c =
     let l = c.loop-i in
-    (omega arith, simp length-set l.invariant.1, filled_more _ l.next l.i _ (omega arith) c.wrapping_add_u32.ensures l.invariant.2)
+    (omega arith, simp length-set l.invariant.1, filled_more _ l.next l.i _ (omega arith) c.wrapping_add_u32.ensures.value l.invariant.2)
 
 pub returns : goal.returns
 returns c =
     let l = c.loop-i in
     let a = c.args in
     let all : l.i ≡ 8 = omega arith in
-    added_is a.t1 a.t2 l.next l.invariant.1 (rw all at l.invariant.2)
+    added_is a.v a.h l.next l.invariant.1 (rw all at l.invariant.2)

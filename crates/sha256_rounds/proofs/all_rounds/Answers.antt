@@ -1,4 +1,3 @@
-
 use Rattle.std.proofs.Common.{◌≡◌, ◌-◌, ◌≤◌, get_or, refl, ap, ◌∙◌, arith, rules}
 use Rattle.sha256_rounds.specs.Rounds.{rounds}
 use Rattle.sha256_rounds.proofs.Turns.{rounds-turn}

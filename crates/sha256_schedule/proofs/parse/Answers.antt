@@ -1,4 +1,3 @@
-
 use Rattle.std.proofs.Common.{◌≡◌, ◌-◌, ◌*◌, ◌≤◌, length, refl, arith, length-set, rules}
 use Rattle.octets.specs.Octets.{number, part}
 use Rattle.octets.proofs.Rule.{Filled, filled_more}

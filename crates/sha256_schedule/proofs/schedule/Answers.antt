@@ -1,4 +1,3 @@
-
 use Rattle.std.proofs.Common.{◌≡◌, ◌-◌, ◌≤◌, length, refl, arith, length-set, rules}
 use Rattle.octets.proofs.Rule.{Filled, filled_more}
 use Rattle.sha256_schedule.specs.Schedule.{W}

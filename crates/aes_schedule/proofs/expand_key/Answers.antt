@@ -1,0 +1,23 @@
+use Prim.Native.Nat.{◌-◌, ◌*◌, ◌≤◌}
+use mathlib.Core.Path.{◌≡◌, ap, ◌∙◌}
+use borrow.Author.Rules.{rules}
+use native.Mathlib.Omega.{arith}
+use lib.ListN.{length, take}
+use Rattle.aes_schedule.specs.Expansion.{grown, expansion}
+use Rattle.aes_schedule.proofs.Growth.{schedule-start, schedule-turn, schedule-end}
+use Rattle.aes_schedule.proofs.expand_key.Goals as goal
+
+pub loop-i-init : goal.loop-i-init
+loop-i-init c =
+    let key = c.args.key in
+    (search rules, search rules, search rules, ap (λ (v : _). grown 40 4 (take 16 v)) c.copy.ensures ∙ schedule-start _ key.now (search rules))
+
+pub loop-i-preserved : goal.loop-i-preserved
+loop-i-preserved c =
+    let l = c.loop-i in
+    (omega arith, omega arith, search rules, schedule-turn l.w _ _ l.i l.invariant.0 (omega arith) l.invariant.2 c.next_word-next.ensures c.copy-in-loop-i.ensures ∙ l.invariant.3)
+
+pub returns : goal.returns
+returns c =
+    let l = c.loop-i in
+    schedule-end l.w l.i (omega arith) l.invariant.2 ∙ l.invariant.3

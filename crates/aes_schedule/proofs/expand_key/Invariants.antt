@@ -1,0 +1,15 @@
+-- What is left to make from the words in the buffer so far is the expansion of the key.
+use Prim.Native.Nat.{◌-◌, ◌*◌, ◌≤◌}
+use mathlib.Core.Path.{◌≡◌, ap, ◌∙◌}
+use borrow.Author.Rules.{rules}
+use native.Mathlib.Omega.{arith}
+use lib.ListN.{length, take}
+use Rattle.aes_schedule.specs.Expansion.{grown, expansion}
+use Rattle.aes_schedule.proofs.Growth.{schedule-start, schedule-turn, schedule-end}
+use Rattle.aes_schedule.proofs.expand_key.Given as goal
+
+abbrev pub invariant-loop-i : goal.invariant-loop-i
+invariant-loop-i l = (4 ≤ l.i) × (l.i ≤ 44) × (length l.w ≡ 176) × (grown (44 - l.i) l.i (take (4 * l.i) l.w) ≡ expansion l.key)
+
+abbrev pub decreases-loop-i : goal.decreases-loop-i
+decreases-loop-i l = 44 - l.i

@@ -1,0 +1,24 @@
+use Prim.Native.Nat.{◌-◌, ◌≤◌}
+use mathlib.Core.Path.{◌≡◌, refl}
+use borrow.Author.Rules.{rules}
+use native.Mathlib.Omega.{arith}
+use Rattle.aes_byte_rounds.specs.Cipher.{rounds}
+use Rattle.aes_byte_rounds.proofs.Rounds.{rounds-turn, rounds-end}
+use Rattle.aes_word_state.specs.Columns.{state_of}
+use Rattle.aes_word_rounds.proofs.encrypt_with.Goals as goal
+
+pub loop-round-init : goal.loop-round-init
+unfolding rounds
+loop-round-init c = (search rules, search rules, refl)
+
+pub loop-round-preserved : goal.loop-round-preserved
+loop-round-preserved c =
+    let l = c.loop-round in
+    let w = c.args.schedule.now in
+    (omega arith, omega arith, rounds-turn w (state_of c.begin-s.result) (state_of l.s) l.round l.invariant.0 l.invariant.2 c.round_key.ensures c.one_round-s.ensures)
+
+pub returns : goal.returns
+returns c =
+    let l = c.loop-round in
+    let a = c.args in
+    rounds-end a.schedule.now (state_of c.begin-s.result) (state_of l.s) l.round a.block.now (omega arith) refl refl c.begin-s.ensures l.invariant.2 refl refl c.finish.ensures

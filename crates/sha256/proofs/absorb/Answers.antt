@@ -1,0 +1,26 @@
+use Prim.Native.Nat.{◌+◌, ◌-◌, ◌≤◌}
+use mathlib.Core.Path.{◌≡◌, refl, sym, ◌∙◌}
+use borrow.Author.Rules.{rules}
+use native.Mathlib.Omega.{arith}
+use lib.ListN.{length, drop, length-drop, length-take}
+use Rattle.sha256.specs.Sha256.{absorbed}
+use Rattle.sha256.proofs.Blocks.{absorbed-none, absorbed-turn}
+use Rattle.sha256.proofs.absorb.Goals as goal
+
+pub loop-at-init : goal.loop-at-init
+loop-at-init c = (omega arith, refl)
+
+pub compress-next-requires : goal.compress-next-requires
+compress-next-requires c = (search rules, simp (length-take, length-drop) (omega arith))
+
+pub loop-at-preserved : goal.loop-at-preserved
+loop-at-preserved c =
+    let l = c.loop-at in
+    let m = c.args.message.now in
+    (omega arith, absorbed-turn l.value m _ l.at (l.at + 64 - l.at) (omega arith) (omega arith) c.compress-next.ensures ∙ l.invariant.1)
+
+pub returns : goal.returns
+returns c =
+    let l = c.loop-at in
+    let m = c.args.message.now in
+    sym (absorbed-none l.value (drop l.at m) (omega (arith, length-drop l.at m))) ∙ l.invariant.1
