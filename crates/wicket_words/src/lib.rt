@@ -1,5 +1,6 @@
 // The words of a call that name something of a packet: a version, a side, a level, the greatest number acknowledged, keys.
 #![tactic(auto)]
+
 ghost use Rattle.std.specs.Prelude.{◌≡◌};
 ghost use Rattle.numbers_shortening.specs.Answers.{acknowledged_of};
 ghost use Rattle.keys.specs.Answers.{Made};
