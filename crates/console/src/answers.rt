@@ -2,6 +2,7 @@
 ghost use Rattle.std.specs.Prelude.{◌≡◌};
 ghost use Rattle.console.specs.Answers.{inside};
 
+use std::io;
 use terminal_words::word;
 
 // The width of a row's label.
@@ -28,75 +29,80 @@ the acknowledged number isn't below the number, or no length covers the gap\n";
 const LEVELS: [u8; 24] = *b"initial\n0-rtt\nhandshake\n";
 
 // A refusal, as a line.
-pub fn refused(number: u8) {
-    terminal::say(b"refused ");
-    terminal::say_number(number as u64);
-    terminal::say(b": ");
-    terminal::say(word(&WORDS, number as usize, b'\n'));
-    terminal::say(b"\n");
+pub fn refused(rt: &impl Print, number: u8) -> io::Result<()> {
+    terminal::say(rt, b"refused ")?;
+    terminal::say_number(rt, number as u64)?;
+    terminal::say(rt, b": ")?;
+    terminal::say(rt, word(&WORDS, number as usize, b'\n'))?;
+    terminal::say(rt, b"\n")
 }
 
 // A row of bytes.
-pub fn bytes(label: &[u8], value: &[u8]) {
-    terminal::say_left(label, LABEL);
-    terminal::say_hex(value);
-    terminal::say(b"\n");
+pub fn bytes(rt: &impl Print, label: &[u8], value: &[u8]) -> io::Result<()> {
+    terminal::say_left(rt, label, LABEL)?;
+    terminal::say_hex(rt, value)?;
+    terminal::say(rt, b"\n")
 }
 
 // A row of a number.
-pub fn number(label: &[u8], value: u64) {
-    terminal::say_left(label, LABEL);
-    terminal::say_number(value);
-    terminal::say(b"\n");
+pub fn number(rt: &impl Print, label: &[u8], value: u64) -> io::Result<()> {
+    terminal::say_left(rt, label, LABEL)?;
+    terminal::say_number(rt, value)?;
+    terminal::say(rt, b"\n")
 }
 
 // A row of a word of 32 bits, in hex.
-pub fn hex_word(label: &[u8], value: u32) {
-    terminal::say_left(label, LABEL);
-    terminal::say_wide(value as u64, 8);
-    terminal::say(b"\n");
+pub fn hex_word(rt: &impl Print, label: &[u8], value: u32) -> io::Result<()> {
+    terminal::say_left(rt, label, LABEL)?;
+    terminal::say_wide(rt, value as u64, 8)?;
+    terminal::say(rt, b"\n")
 }
 
 // A row of a level, by its name.
-pub fn level(label: &[u8], value: u8) {
-    terminal::say_left(label, LABEL);
-    terminal::say(word(&LEVELS, value as usize, b'\n'));
-    terminal::say(b"\n");
+pub fn level(rt: &impl Print, label: &[u8], value: u8) -> io::Result<()> {
+    terminal::say_left(rt, label, LABEL)?;
+    terminal::say(rt, word(&LEVELS, value as usize, b'\n'))?;
+    terminal::say(rt, b"\n")
 }
 
 // A count of bytes.
-fn counted(count: usize) {
-    terminal::say_number(count as u64);
+fn counted(rt: &impl Print, count: usize) -> io::Result<()> {
+    terminal::say_number(rt, count as u64)?;
     if count == 1 {
-        terminal::say(b" byte");
-        return;
+        return terminal::say(rt, b" byte");
     }
-    terminal::say(b" bytes");
+    terminal::say(rt, b" bytes")
 }
 
 // The rest of a row: bytes, if there are any.
-fn listed(value: &[u8]) {
+fn listed(rt: &impl Print, value: &[u8]) -> io::Result<()> {
     if 0 < value.len() {
-        terminal::say(b": ");
-        terminal::say_hex(value);
+        terminal::say(rt, b": ")?;
+        terminal::say_hex(rt, value)?;
     }
-    terminal::say(b"\n");
+    terminal::say(rt, b"\n")
 }
 
 // A row of a part of something: how long it is, where it stands, its bytes.
-pub fn part(label: &[u8], length: usize, at: usize, value: &[u8]) {
-    terminal::say_left(label, LABEL);
-    counted(length);
-    terminal::say(b" at ");
-    terminal::say_number(at as u64);
-    listed(value);
+pub fn part(
+    rt: &impl Print,
+    label: &[u8],
+    length: usize,
+    at: usize,
+    value: &[u8],
+) -> io::Result<()> {
+    terminal::say_left(rt, label, LABEL)?;
+    counted(rt, length)?;
+    terminal::say(rt, b" at ")?;
+    terminal::say_number(rt, at as u64)?;
+    listed(rt, value)
 }
 
 // A row of bytes with their count in front.
-pub fn sized(label: &[u8], value: &[u8]) {
-    terminal::say_left(label, LABEL);
-    counted(value.len());
-    listed(value);
+pub fn sized(rt: &impl Print, label: &[u8], value: &[u8]) -> io::Result<()> {
+    terminal::say_left(rt, label, LABEL)?;
+    counted(rt, value.len())?;
+    listed(rt, value)
 }
 
 // The bytes of a buffer from a place on, and nothing where they are not all there.

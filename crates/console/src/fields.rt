@@ -1,6 +1,6 @@
 // The words of a call, read.
 ghost use Rattle.std.specs.Prelude.{◌≡◌};
-ghost use Rattle.io.specs.Counts.{IsPrefixLen};
+ghost use Rattle.std.specs.Counts.{IsPrefixLen};
 ghost use Rattle.digits_numbers.specs.Numbers.{number_of};
 ghost use Rattle.digits_reading.specs.Digits.{Decoded};
 ghost use Rattle.terminal_words.specs.Words.{word_of};

@@ -1,26 +1,53 @@
 // Files that a call names.
-ghost use Rattle.std.specs.Prelude.{true, ◌≡◌, ◌+◌, ◌-◌, ◌^◌, min, pos};
+ghost use Rattle.std.specs.Prelude.{true, ◌≡◌, ◌+◌, ◌-◌, ◌^◌, min, IsOkAnd};
 ghost use Rattle.octets.specs.Octets as Octets;
 ghost use Rattle.console.specs.Fields.{dash};
-ghost use Rattle.console.specs.Files.{is_comment};
+ghost use Rattle.console.specs.Files.{is_comment, IsStandardInput};
 
-use libc::STDIN_FILENO;
+use std::io::{Input, Read};
+use std::rt::Files;
+use std::{fs, io, str};
 use terminal_words::{count, same};
 
-// A descriptor of the file to be read, - being standard input; below 0 where it cannot be opened, which is said.
-pub fn open(path: &[u8]) -> i32
-    ensures { Octets.same path.now dash ≡ true → result ≡ pos 0 }
+// What a call names to be read: standard input, or a file.
+#[derive(Drop)]
+pub enum Readable<S, F> {
+    StandardInput(S),
+    File(F),
+}
+
+impl<S: Read, F: Read> Read for Readable<S, F> {
+    fn read(&mut self, buffer: &mut [u8]) -> io::Result<usize> {
+        match self {
+            Readable::StandardInput(input) => input.read(buffer),
+            Readable::File(file) => file.read(buffer),
+        }
+    }
+}
+
+// The file of a name, where there is one that can be opened: a name is text.
+fn file_of<R: Files>(rt: &R, path: &[u8]) -> Option<R::File> {
+    let name = str::from_utf8(path).ok()?;
+    fs::open(rt, name).ok()
+}
+
+// What is to be read, - being standard input; nothing where it cannot be opened, which is said.
+pub fn open<R: Files + Input + Print>(
+    rt: &R,
+    path: &[u8],
+) -> io::Result<Option<Readable<R::Reader, R::File>>>
+    ensures { Octets.same path.now dash ≡ true → IsOkAnd result IsStandardInput }
 {
     if same(path, b"-") {
-        return STDIN_FILENO;
+        return Ok(Some(Readable::StandardInput(rt.reader())));
     }
-    let file = os::open_read(path);
-    if file < 0 {
-        terminal::say(b"cannot open ");
-        terminal::say(path);
-        terminal::say(b"\n");
+    if let Some(file) = file_of(rt, path) {
+        return Ok(Some(Readable::File(file)));
     }
-    file
+    terminal::say(rt, b"cannot open ")?;
+    terminal::say(rt, path)?;
+    terminal::say(rt, b"\n")?;
+    Ok(None)
 }
 
 // Whether a line is a comment, or has no word.
@@ -34,17 +61,17 @@ pub fn is_comment(text: &[u8]) -> bool
 }
 
 // A line that is too long is passed over.
-pub fn too_long(line: u64) {
-    terminal::say(b"line ");
-    terminal::say_number(line);
-    terminal::say(b" is too long\n");
+pub fn too_long(rt: &impl Print, line: u64) -> io::Result<()> {
+    terminal::say(rt, b"line ")?;
+    terminal::say_number(rt, line)?;
+    terminal::say(rt, b" is too long\n")
 }
 
 // A line cannot be read.
-pub fn unread(line: u64) {
-    terminal::say(b"line ");
-    terminal::say_number(line);
-    terminal::say(b" cannot be read\n");
+pub fn unread(rt: &impl Print, line: u64) -> io::Result<()> {
+    terminal::say(rt, b"line ")?;
+    terminal::say_number(rt, line)?;
+    terminal::say(rt, b" cannot be read\n")
 }
 
 // The number behind one that counts lines or datagrams; the largest stays.

@@ -1,5 +1,6 @@
 // Numbers read: what digits spell in a base, and what a text spells.
 #![tactic(auto)]
+
 ghost use Rattle.std.specs.Prelude.{◌≡◌, ◌≤◌};
 ghost use Rattle.digits_numbers.specs.Numbers.{fitting, number_in, marked, number_of};
 

@@ -1,7 +1,8 @@
 // Digits written: the hex digits of bytes.
 #![tactic(auto)]
+
 ghost use Rattle.std.specs.Prelude.{◌≡◌, ◌<◌};
-ghost use Rattle.io.specs.Counts.{IsPrefixLen};
+ghost use Rattle.std.specs.Counts.{IsPrefixLen};
 ghost use Rattle.digits_writing.specs.Hex.{digit_of, Encoded};
 
 use digits_reading::least;

@@ -1,5 +1,6 @@
 // Text at a terminal: what programs of this repository print, and files read by lines.
 #![tactic(auto)]
+
 pub mod lines;
 pub mod print;
 

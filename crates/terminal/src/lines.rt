@@ -1,22 +1,24 @@
 // A file read by lines, however long it is, through a chunk that the caller lends.
 ghost use Rattle.std.specs.Prelude.{◌≡◌};
-ghost use Rattle.io.specs.Counts.{IsPrefixLen};
+ghost use Rattle.std.specs.Counts.{IsPrefixLen};
 ghost use Rattle.terminal.specs.Blanks.{unblanked, zeroed};
 
-// A file that is being read: its descriptor, and the part of the chunk that is still to be taken.
-#[derive(Clone, Copy)]
-pub struct Source {
-    pub file: i32,
+use std::io::Read;
+
+// A file that is being read, and the part of the chunk that is still to be taken.
+#[derive(Drop)]
+pub struct Source<R> {
+    pub file: R,
     pub at: usize,
     pub end: usize,
 }
 
-// What comes next: a character, with the source behind it; the end; or a read that failed.
-#[derive(Clone, Copy)]
-pub enum Step {
-    Byte(u8, Source),
-    End,
-    Failed,
+// What comes next, with the source behind it: a character; the end; or a read that failed.
+#[derive(Drop)]
+pub enum Step<R> {
+    Byte(u8, Source<R>),
+    End(Source<R>),
+    Failed(Source<R>),
 }
 
 // How reading a line went.
@@ -29,15 +31,15 @@ pub enum Ending {
 }
 
 // A line at the start of a buffer: how it ended, how long it is, and the source behind it.
-#[derive(Clone, Copy)]
-pub struct Line {
+#[derive(Drop)]
+pub struct Line<R> {
     pub ending: Ending,
     pub length: usize,
-    pub source: Source,
+    pub source: Source<R>,
 }
 
 // A file from its start on.
-pub fn from_start(file: i32) -> Source
+pub fn from_start<R>(file: R) -> Source<R>
     ensures { (result.file ≡ file) × (result.at ≡ 0) × (result.end ≡ 0) }
 {
     Source {
@@ -48,45 +50,42 @@ pub fn from_start(file: i32) -> Source
 }
 
 // The next chunk is read, and its first character taken.
-fn refill(file: i32, chunk: &mut [u8]) -> Step {
-    let got = libc::read(file, chunk);
-    if got < 0 {
-        return Step::Failed;
+fn refill<R: Read>(before: Source<R>, chunk: &mut [u8]) -> Step<R> {
+    let mut source = before;
+    match source.file.read(chunk) {
+        Err(_) => Step::Failed(source),
+        Ok(end) => {
+            if end < 1 {
+                return Step::End(source);
+            }
+            source.at = 1;
+            source.end = end;
+            Step::Byte(chunk[0], source)
+        }
     }
-    let end = io::count(got, chunk);
-    if end < 1 {
-        return Step::End;
-    }
-    Step::Byte(chunk[0], Source { file, at: 1, end })
 }
 
 // The next character of a file.
-fn next(source: Source, chunk: &mut [u8]) -> Step {
+fn next<R: Read>(before: Source<R>, chunk: &mut [u8]) -> Step<R> {
+    let mut source = before;
     let at = source.at;
-    let end = source.end;
-    if at < end {
+    if at < source.end {
         if at < chunk.len() {
-            return Step::Byte(
-                chunk[at],
-                Source {
-                    file: source.file,
-                    at: at + 1,
-                    end,
-                },
-            );
+            source.at = at + 1;
+            return Step::Byte(chunk[at], source);
         }
     }
-    refill(source.file, chunk)
+    refill(source, chunk)
 }
 
 // The rest of a line is passed over.
-fn skip_line(start: Source, chunk: &mut [u8]) -> Source {
+fn skip_line<R: Read>(start: Source<R>, chunk: &mut [u8]) -> Source<R> {
     let mut source = start;
     let mut turns = u64::MAX;
     while 0 < turns {
         match next(source, chunk) {
-            Step::End => return source,
-            Step::Failed => return source,
+            Step::End(behind) => return behind,
+            Step::Failed(behind) => return behind,
             Step::Byte(byte, behind) => {
                 if byte == b'\n' {
                     return behind;
@@ -109,25 +108,25 @@ fn at_the_end(taken: usize) -> Ending {
 }
 
 // The next line, without its end, put at the start of a buffer. A line that does not fit is passed over.
-pub fn read_line(start: Source, chunk: &mut [u8], line: &mut [u8]) -> Line
+pub fn read_line<R: Read>(start: Source<R>, chunk: &mut [u8], line: &mut [u8]) -> Line<R>
     ensures { IsPrefixLen result.length line.new }
 {
     let mut source = start;
     let mut taken: usize = 0;
     while taken < line.len() {
         match next(source, chunk) {
-            Step::Failed => {
+            Step::Failed(behind) => {
                 return Line {
                     ending: Ending::Failed,
                     length: 0,
-                    source,
+                    source: behind,
                 };
             }
-            Step::End => {
+            Step::End(behind) => {
                 return Line {
                     ending: at_the_end(taken),
                     length: taken,
-                    source,
+                    source: behind,
                 };
             }
             Step::Byte(byte, behind) => {

@@ -1,15 +1,15 @@
-// What is printed: text, bytes in hex, numbers in decimal and hex.
+// What is printed: text, bytes in hex, numbers in decimal and hex. Each answers how writing it went.
 ghost use Rattle.std.specs.Prelude.{◌≡◌, ◌-◌, ◌<◌, ◌≤◌};
 
 use digits_writing::encode;
-use libc::STDOUT_FILENO;
+use std::io;
 
 // How many characters of hex are written at once.
 const ROW: usize = 128;
 
 // The text, as it is.
-pub fn say(text: &[u8]) {
-    io::write_all(STDOUT_FILENO, text);
+pub fn say(rt: &impl Print, text: &[u8]) -> io::Result<()> {
+    rt.write_all(text)
 }
 
 // Where the next run of bytes ends, of at most half as many as a row of text has characters.
@@ -24,35 +24,37 @@ fn row_end(at: usize, all: usize) -> usize
 }
 
 // Two hex digits for each byte.
-pub fn say_hex(bytes: &[u8]) {
+pub fn say_hex(rt: &impl Print, bytes: &[u8]) -> io::Result<()> {
     let mut row = [0u8; ROW];
     let mut at: usize = 0;
     while at < bytes.len() {
         let end = row_end(at, bytes.len());
         let count = encode(&bytes[at..end], &mut row);
-        say(&row[..count]);
+        say(rt, &row[..count])?;
         at = end;
     }
+    Ok(())
 }
 
 // The number in decimal.
-pub fn say_number(number: u64) {
-    io::print_decimal(STDOUT_FILENO, number);
+pub fn say_number(rt: &impl Print, number: u64) -> io::Result<()> {
+    print!(rt; "{number}")
 }
 
-// The number in hex, with 0x and zeros in front up to a width of digits.
-pub fn say_wide(number: u64, width: usize) {
-    say(b"0x");
-    io::print_hex(STDOUT_FILENO, number, width);
+// The number in hex, with 0x and zeros in front up to a width of digits, of which a number has 16 at most.
+pub fn say_wide(rt: &impl Print, number: u64, width: usize) -> io::Result<()> {
+    let digits = width.min(16);
+    print!(rt; "0x{number:0digits$x}")
 }
 
 // So many blanks.
-fn say_blanks(count: usize) {
+fn say_blanks(rt: &impl Print, count: usize) -> io::Result<()> {
     let mut left = count;
     while 0 < left {
-        say(b" ");
+        say(rt, b" ")?;
         left -= 1;
     }
+    Ok(())
 }
 
 // One number less another, and 0 where the other is larger.
@@ -66,15 +68,12 @@ pub fn less(a: usize, b: usize) -> usize
 }
 
 // The text in a cell of a width, at its left.
-pub fn say_left(text: &[u8], width: usize) {
-    say(text);
-    say_blanks(less(width, text.len()));
+pub fn say_left(rt: &impl Print, text: &[u8], width: usize) -> io::Result<()> {
+    say(rt, text)?;
+    say_blanks(rt, less(width, text.len()))
 }
 
 // The number in decimal in a cell of a width, at its right.
-pub fn say_right(number: u64, width: usize) {
-    let mut text = [0u8; 20];
-    let length = io::decimal(number, &mut text);
-    say_blanks(less(width, length));
-    say(&text[..length]);
+pub fn say_right(rt: &impl Print, number: u64, width: usize) -> io::Result<()> {
+    print!(rt; "{number:>width$}")
 }

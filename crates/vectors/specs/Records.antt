@@ -1,5 +1,5 @@
 -- The key record of a line on packets. A colon is 58.
-use Rattle.std.specs.Prelude.{ℕ, ◌%◌, cond, List, ◌==◌}
+use Rattle.std.specs.Prelude.{ℕ, ◌%◌, cond, List, eqb}
 use Rattle.digits_numbers.specs.Numbers.{number_of}
 use Rattle.terminal_words.specs.Words.{word_of, word_count}
 use Rattle.console.specs.Fields.{value_or0}
@@ -16,6 +16,6 @@ byte_spelt t = value_or0 (number_of t) % 256
 -- version name; else the Initial keys of a connection ID, and blank ones where they are refused
 unfoldable pub record_named : List ℕ → Keys
 record_named line =
-    cond (word_count 58 (word_of 0 line 2) == 2)
+    cond (eqb (word_count 58 (word_of 0 line 2)) 2)
     (keys_from (version_at line 1) (byte_spelt (word_of 58 (word_of 0 line 2) 0)) (secret_spelt (word_of 58 (word_of 0 line 2) 1)))
     (keys_given (initial_named line))

@@ -3,6 +3,7 @@ ghost use Rattle.std.specs.Prelude.{◌≤◌, length};
 
 use crate::{fields, print};
 use aes_engines::Both;
+use std::io;
 
 // A block encrypted under a key, by both engines: KEY BLOCK.
 fn encrypted(line: &[u8]) -> Both {
@@ -14,9 +15,9 @@ fn encrypted(line: &[u8]) -> Both {
 }
 
 // aes KEY BLOCK, on bytes
-pub fn aes(line: &[u8]) {
+pub fn aes(rt: &impl Print, line: &[u8]) -> io::Result<()> {
     let block = encrypted(line).bytes;
-    print::bytes(&block);
+    print::bytes(rt, &block)
 }
 
 // The same by the engine on words, which the library uses.
@@ -25,26 +26,26 @@ fn on_words(line: &[u8]) -> [u8; 16] {
 }
 
 // aes-words KEY BLOCK
-pub fn aes_words(line: &[u8]) {
-    print::bytes(&on_words(line));
+pub fn aes_words(rt: &impl Print, line: &[u8]) -> io::Result<()> {
+    print::bytes(rt, &on_words(line))
 }
 
 // aes-mask KEY SAMPLE: the first five bytes alone
-pub fn aes_mask(line: &[u8]) {
+pub fn aes_mask(rt: &impl Print, line: &[u8]) -> io::Result<()> {
     let block = on_words(line);
-    print::bytes(&block[0..5]);
+    print::bytes(rt, &block[0..5])
 }
 
 // aes-schedule KEY
-pub fn aes_schedule(line: &[u8]) {
+pub fn aes_schedule(rt: &impl Print, line: &[u8]) -> io::Result<()> {
     let mut key = [0u8; 16];
     fields::bytes(line, 1, &mut key);
-    print::bytes(&aes_schedule::expand_key(&key));
+    print::bytes(rt, &aes_schedule::expand_key(&key))
 }
 
 // aes-s-box
-pub fn aes_s_box() {
-    print::bytes(&aes_s_box::table());
+pub fn aes_s_box(rt: &impl Print) -> io::Result<()> {
+    print::bytes(rt, &aes_s_box::table())
 }
 
 // The ciphertext of a plaintext, at the start of a buffer at least as long, and its tag; the associated data comes in three pieces.
@@ -76,16 +77,16 @@ fn seal(
 }
 
 // gcm KEY NONCE ASSOCIATED PLAIN
-pub fn gcm(line: &[u8]) {
+pub fn gcm(rt: &impl Print, line: &[u8]) -> io::Result<()> {
     let mut key = [0u8; 16];
     fields::bytes(line, 1, &mut key);
     let mut nonce = [0u8; 12];
     fields::bytes(line, 2, &mut nonce);
-    let mut associated = io::buffer();
+    let mut associated = [0u8; 4096];
     let longer = fields::bytes(line, 3, &mut associated);
-    let mut plain = io::buffer();
+    let mut plain = [0u8; 4096];
     let length = fields::bytes(line, 4, &mut plain);
-    let mut out = io::buffer();
+    let mut out = [0u8; 4096];
     let tag = seal(
         &key,
         &nonce,
@@ -93,8 +94,8 @@ pub fn gcm(line: &[u8]) {
         &plain[..length],
         &mut out,
     );
-    terminal::say(b"sealed");
-    print::part(b"cipher,tag", 0, &out[0..length]);
-    print::part(b"cipher,tag", 1, &tag);
-    print::end();
+    terminal::say(rt, b"sealed")?;
+    print::part(rt, b"cipher,tag", 0, &out[0..length])?;
+    print::part(rt, b"cipher,tag", 1, &tag)?;
+    print::end(rt)
 }

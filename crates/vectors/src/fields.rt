@@ -1,7 +1,7 @@
 // The words of a call that stand for bytes. They are hex, and - is no bytes; 55:3:7 is 55 bytes, the first of them 3 and each 7
 // above the one before it, modulo 256.
 ghost use Rattle.std.specs.Prelude.{◌≡◌, ◌≤◌};
-ghost use Rattle.io.specs.Counts.{IsPrefixLen};
+ghost use Rattle.std.specs.Counts.{IsPrefixLen};
 ghost use Rattle.vectors.specs.Records.{byte_spelt};
 
 use console::fields::{END, number, value};

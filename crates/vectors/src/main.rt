@@ -1,6 +1,7 @@
 // Public vectors: each line of the file stdin is a label and a call, and what it answers is written behind the label. The file
 // stdout has the papers' values, and ours on either side of a boundary.
 #![tactic(auto)]
+
 mod cipher;
 mod counts;
 mod fields;
@@ -13,6 +14,8 @@ mod print;
 mod retrying;
 mod sealing;
 
-fn main() {
-    lines::run();
+use std::io;
+
+fn main(rt: HostRuntime) -> io::Result<()> {
+    lines::run(&rt)
 }

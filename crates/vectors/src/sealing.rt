@@ -4,24 +4,32 @@ use crate::{fields, print};
 use console::fields::number;
 use numbers::FullPn;
 use seal_judging::Sealing;
+use std::io;
 use wicket_words::acknowledged;
 
 // What sealing into a buffer answered.
-fn answer(sealing: Sealing, out: &[u8]) {
+fn answer(rt: &impl Print, sealing: Sealing, out: &[u8]) -> io::Result<()> {
     match sealing {
-        Sealing::Refused(why) => print::refused(why),
-        Sealing::Written(size) => print::written(out, size),
+        Sealing::Refused(why) => print::refused(rt, why),
+        Sealing::Written(size) => print::written(rt, out, size),
     }
 }
 
 // A packet of either form, sealed into a buffer: the long one has no token.
-fn seal_into(line: &[u8], long: bool, token: &[u8], payload: &[u8], out: &mut [u8]) {
+fn seal_into(
+    rt: &impl Print,
+    line: &[u8],
+    long: bool,
+    token: &[u8],
+    payload: &[u8],
+    out: &mut [u8],
+) -> io::Result<()> {
     let keys = record_of(line);
     let full = FullPn(number(line, 4));
     let count = number(line, 6) as usize;
-    let mut destination = io::buffer();
+    let mut destination = [0u8; 4096];
     let longer = fields::bytes(line, 7, &mut destination);
-    let mut source = io::buffer();
+    let mut source = [0u8; 4096];
     let length = fields::bytes(line, 8, &mut source);
     if long {
         let sealing = seal::seal_long(
@@ -34,8 +42,7 @@ fn seal_into(line: &[u8], long: bool, token: &[u8], payload: &[u8], out: &mut [u
             payload,
             out,
         );
-        answer(sealing, out);
-        return;
+        return answer(rt, sealing, out);
     }
     let sealing = seal::seal(
         keys,
@@ -48,31 +55,32 @@ fn seal_into(line: &[u8], long: bool, token: &[u8], payload: &[u8], out: &mut [u
         payload,
         out,
     );
-    answer(sealing, out);
+    answer(rt, sealing, out)
 }
 
 // seal VERSION ID|LEVEL:SECRET client|server NUMBER ACKNOWLEDGED LENGTH DESTINATION SOURCE TOKEN PAYLOAD ROOM
-pub fn seal(line: &[u8]) {
-    let mut token = io::buffer();
+pub fn seal(rt: &impl Print, line: &[u8]) -> io::Result<()> {
+    let mut token = [0u8; 4096];
     let longer = fields::bytes(line, 9, &mut token);
-    let mut payload = io::buffer();
+    let mut payload = [0u8; 4096];
     let length = fields::bytes(line, 10, &mut payload);
-    let mut out = io::buffer();
+    let mut out = [0u8; 4096];
     let room = fields::room(line, 11, &out);
     seal_into(
+        rt,
         line,
         false,
         &token[..longer],
         &payload[..length],
         &mut out[..room],
-    );
+    )
 }
 
 // seal-long VERSION ID|LEVEL:SECRET client|server NUMBER ACKNOWLEDGED LENGTH DESTINATION SOURCE PAYLOAD ROOM
-pub fn seal_long(line: &[u8]) {
-    let mut payload = io::buffer();
+pub fn seal_long(rt: &impl Print, line: &[u8]) -> io::Result<()> {
+    let mut payload = [0u8; 4096];
     let length = fields::bytes(line, 9, &mut payload);
-    let mut out = io::buffer();
+    let mut out = [0u8; 4096];
     let room = fields::room(line, 10, &out);
-    seal_into(line, true, b"", &payload[..length], &mut out[..room]);
+    seal_into(rt, line, true, b"", &payload[..length], &mut out[..room])
 }

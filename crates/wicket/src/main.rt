@@ -1,5 +1,6 @@
 // wicket: the library at a terminal.
 #![tactic(auto)]
+
 mod commands;
 mod headers;
 mod making;
@@ -9,7 +10,9 @@ mod retrying;
 mod scripts;
 mod sealing;
 
-fn main() {
+use std::io;
+
+fn main(rt: HostRuntime) -> io::Result<()> {
     let manual = b"wicket keys VERSION ID client|server
 wicket install VERSION LEVEL client|server SECRET
 wicket seal VERSION ID|LEVEL:SECRET client|server NUMBER ACKNOWLEDGED LENGTH DESTINATION SOURCE TOKEN PAYLOAD
@@ -21,5 +24,5 @@ wicket check-retry ORIGINAL DATAGRAM
 wicket receive VERSION ID|LEVEL:SECRET client|server EXPECTED FILE
 wicket script FILE
 ";
-    scripts::program(manual);
+    scripts::program(&rt, manual)
 }

@@ -4,6 +4,9 @@ use console::{answers, fields, files};
 use open::Opening;
 use open_writing::Opened;
 use protection::Keys;
+use std::io;
+use std::io::{Input, Read};
+use std::rt::Files;
 use terminal::lines::{Ending, blanks_to_zeros, from_start, read_line};
 use terminal_words::{count, word};
 use wicket_words::keys_of;
@@ -29,93 +32,113 @@ fn missed(tally: Tally) -> Tally {
 }
 
 // A line that is too long.
-fn too_long(line: u64, tally: Tally) -> Tally {
-    files::too_long(line);
-    missed(tally)
+fn too_long(rt: &impl Print, line: u64, tally: Tally) -> io::Result<Tally> {
+    files::too_long(rt, line)?;
+    Ok(missed(tally))
 }
 
 // A packet that was opened, as a row: number, payload's length, its first bytes, and what stands behind the packet.
-fn opened(found: Opened, buffer: &[u8], length: usize) {
+fn opened(rt: &impl Print, found: Opened, buffer: &[u8], length: usize) -> io::Result<()> {
     let number = found.number;
     let payload = answers::within(buffer, found.header_length, found.payload_length);
-    terminal::say_right(number.0, 6);
-    terminal::say_right(found.payload_length as u64, 9);
-    terminal::say(b"  ");
+    terminal::say_right(rt, number.0, 6)?;
+    terminal::say_right(rt, found.payload_length as u64, 9)?;
+    terminal::say(rt, b"  ")?;
     if payload.len() <= SHOWN {
-        terminal::say_hex(payload);
+        terminal::say_hex(rt, payload)?;
     } else {
-        terminal::say_hex(answers::within(payload, 0, SHOWN));
-        terminal::say(b"..");
+        terminal::say_hex(rt, answers::within(payload, 0, SHOWN))?;
+        terminal::say(rt, b"..")?;
     }
     if found.used < length {
-        terminal::say(b"  (");
-        terminal::say_number((length - found.used) as u64);
-        terminal::say(b" bytes behind it)");
+        terminal::say(rt, b"  (")?;
+        terminal::say_number(rt, (length - found.used) as u64)?;
+        terminal::say(rt, b" bytes behind it)")?;
     }
-    terminal::say(b"\n");
+    terminal::say(rt, b"\n")
 }
 
 // One datagram comes: a row of the answer.
-fn arrive(keys: Keys, expected: &mut u64, text: &[u8], tally: Tally) -> Tally {
-    let mut datagram = io::buffer();
+fn arrive(
+    rt: &impl Print,
+    keys: Keys,
+    expected: &mut u64,
+    text: &[u8],
+    tally: Tally,
+) -> io::Result<Tally> {
+    let mut datagram = [0u8; 4096];
     let length = digits_reading::decode(text, &mut datagram);
-    let mut out = io::buffer();
+    let mut out = [0u8; 4096];
     match open::open(keys, expected, &datagram[..length], &mut out) {
         Opening::Refused(why) => {
-            answers::refused(why);
-            Tally {
+            answers::refused(rt, why)?;
+            Ok(Tally {
                 opened: tally.opened,
                 refused: files::next(tally.refused),
                 unread: tally.unread,
-            }
+            })
         }
         Opening::Opened(found) => {
-            opened(found, &out, length);
-            Tally {
+            opened(rt, found, &out, length)?;
+            Ok(Tally {
                 opened: files::next(tally.opened),
                 refused: tally.refused,
                 unread: tally.unread,
-            }
+            })
         }
     }
 }
 
 // One line of the file: a datagram, or a comment or nothing, which is shown.
-fn take(keys: Keys, expected: &mut u64, text: &mut [u8], line: u64, tally: Tally) -> Tally {
+fn take(
+    rt: &impl Print,
+    keys: Keys,
+    expected: &mut u64,
+    text: &mut [u8],
+    line: u64,
+    tally: Tally,
+) -> io::Result<Tally> {
     if files::is_comment(text) {
-        terminal::say(text);
-        terminal::say(b"\n");
-        return tally;
+        terminal::say(rt, text)?;
+        terminal::say(rt, b"\n")?;
+        return Ok(tally);
     }
     blanks_to_zeros(text);
     let words = count(text, END);
     if words == 0 {
-        return tally;
+        return Ok(tally);
     }
-    terminal::say_right(line, 5);
-    terminal::say(b"  ");
+    terminal::say_right(rt, line, 5)?;
+    terminal::say(rt, b"  ")?;
     if words != 1 {
-        console_words::wrong(b"line");
-        terminal::say(b"more than one word\n");
-        return missed(tally);
+        console_words::wrong(rt, b"line")?;
+        terminal::say(rt, b"more than one word\n")?;
+        return Ok(missed(tally));
     }
     let datagram = word(text, 0, END);
-    if !console_words::is_hex(datagram, b"datagram") {
-        return missed(tally);
+    if !console_words::is_hex(rt, datagram, b"datagram")? {
+        return Ok(missed(tally));
     }
-    arrive(keys, expected, datagram, tally)
+    arrive(rt, keys, expected, datagram, tally)
 }
 
 // What came of all.
-fn summary(tally: Tally, expected: u64) {
-    answers::number(b"opened", tally.opened);
-    answers::number(b"refused", tally.refused);
-    answers::number(b"not read", tally.unread);
-    answers::number(b"expected then", expected);
+fn summary(rt: &impl Print, tally: Tally, expected: u64) -> io::Result<()> {
+    answers::number(rt, b"opened", tally.opened)?;
+    answers::number(rt, b"refused", tally.refused)?;
+    answers::number(rt, b"not read", tally.unread)?;
+    answers::number(rt, b"expected then", expected)
 }
 
 // All lines of a file.
-fn receive_all(keys: Keys, before: u64, file: i32, chunk: &mut [u8], text: &mut [u8]) {
+fn receive_all<R: Read + Drop>(
+    rt: &impl Print,
+    keys: Keys,
+    before: u64,
+    file: R,
+    chunk: &mut [u8],
+    text: &mut [u8],
+) -> io::Result<()> {
     let mut expected = before;
     let mut source = from_start(file);
     let mut tally = Tally {
@@ -132,36 +155,40 @@ fn receive_all(keys: Keys, before: u64, file: i32, chunk: &mut [u8], text: &mut 
         let ending = read.ending;
         match ending {
             Ending::Whole => {
-                tally = take(keys, &mut expected, &mut text[..length], line, tally);
+                tally = take(rt, keys, &mut expected, &mut text[..length], line, tally)?;
             }
             Ending::TooLong => {
-                tally = too_long(line, tally);
+                tally = too_long(rt, line, tally)?;
             }
             Ending::Failed => {
-                files::unread(line);
-                return summary(tally, expected);
+                files::unread(rt, line)?;
+                return summary(rt, tally, expected);
             }
-            Ending::End => return summary(tally, expected),
+            Ending::End => return summary(rt, tally, expected),
         }
     }
-    summary(tally, expected);
+    summary(rt, tally, expected)
 }
 
 // wicket receive VERSION ID|LEVEL:SECRET client|server EXPECTED FILE
-pub fn receive(line: &[u8]) {
+pub fn receive(rt: &(impl Files + Input + Print), line: &[u8]) -> io::Result<()> {
     let made = keys_of(line);
     if made.refused != 0 {
-        answers::refused(made.refused);
-        return;
+        return answers::refused(rt, made.refused);
     }
     let keys = made.keys;
-    let file = files::open(word(line, 5, END));
-    if file < 0 {
-        return;
-    }
-    let mut chunk = io::buffer();
-    let mut text = io::large_buffer();
-    terminal::say(b" line  number  payload  its first bytes\n");
-    receive_all(keys, fields::number(line, 4), file, &mut chunk, &mut text);
-    libc::close(file);
+    let Some(file) = files::open(rt, word(line, 5, END))? else {
+        return Ok(());
+    };
+    let mut chunk = [0u8; 4096];
+    let mut text = [0u8; 65536];
+    terminal::say(rt, b" line  number  payload  its first bytes\n")?;
+    receive_all(
+        rt,
+        keys,
+        fields::number(line, 4),
+        file,
+        &mut chunk,
+        &mut text,
+    )
 }

@@ -4,18 +4,19 @@ use console::{answers, fields};
 use retry_checking::{Checking, RetryFields};
 use retry_parts::{retry_destination, retry_source, retry_token};
 use retry_writing::Writing;
+use std::io;
 
 // wicket retry VERSION ORIGINAL DESTINATION SOURCE TOKEN LOW-BITS
-pub fn retry(line: &[u8]) {
-    let mut original = io::buffer();
+pub fn retry(rt: &impl Print, line: &[u8]) -> io::Result<()> {
+    let mut original = [0u8; 4096];
     let original_length = fields::bytes(line, 2, &mut original);
-    let mut destination = io::buffer();
+    let mut destination = [0u8; 4096];
     let destination_length = fields::bytes(line, 3, &mut destination);
-    let mut source = io::buffer();
+    let mut source = [0u8; 4096];
     let source_length = fields::bytes(line, 4, &mut source);
-    let mut token = io::buffer();
+    let mut token = [0u8; 4096];
     let token_length = fields::bytes(line, 5, &mut token);
-    let mut out = io::buffer();
+    let mut out = [0u8; 4096];
     match retry_writing::write_retry(
         wicket_words::version(line, 1),
         &original[..original_length],
@@ -25,45 +26,53 @@ pub fn retry(line: &[u8]) {
         fields::number(line, 6),
         &mut out,
     ) {
-        Writing::Refused(why) => answers::refused(why),
-        Writing::Written(size) => written(&out, size),
+        Writing::Refused(why) => answers::refused(rt, why),
+        Writing::Written(size) => written(rt, &out, size),
     }
 }
 
 // The fields of a Retry that was accepted.
-fn checked(found: RetryFields, original: &[u8], datagram: &[u8]) {
+fn checked(
+    rt: &impl Print,
+    found: RetryFields,
+    original: &[u8],
+    datagram: &[u8],
+) -> io::Result<()> {
     let destination = found.destination;
     let source = found.source;
     let token = found.token;
-    answers::hex_word(b"version", found.version);
+    answers::hex_word(rt, b"version", found.version)?;
     answers::part(
+        rt,
         b"destination",
         destination.len,
         destination.at,
         retry_destination(original, datagram),
-    );
+    )?;
     answers::part(
+        rt,
         b"source",
         source.len,
         source.at,
         retry_source(original, datagram),
-    );
+    )?;
     answers::part(
+        rt,
         b"token",
         token.len,
         token.at,
         retry_token(original, datagram),
-    );
+    )
 }
 
 // wicket check-retry ORIGINAL DATAGRAM
-pub fn check_retry(line: &[u8]) {
-    let mut original = io::buffer();
+pub fn check_retry(rt: &impl Print, line: &[u8]) -> io::Result<()> {
+    let mut original = [0u8; 4096];
     let count = fields::bytes(line, 1, &mut original);
-    let mut datagram = io::buffer();
+    let mut datagram = [0u8; 4096];
     let length = fields::bytes(line, 2, &mut datagram);
     match retry_checking::check_retry(&original[..count], &datagram[..length]) {
-        Checking::Refused(why) => answers::refused(why),
-        Checking::Checked(found) => checked(found, &original[..count], &datagram[..length]),
+        Checking::Refused(why) => answers::refused(rt, why),
+        Checking::Checked(found) => checked(rt, found, &original[..count], &datagram[..length]),
     }
 }

@@ -5,25 +5,34 @@ use console::fields::END;
 use console::files;
 use console_calls::is_well_made;
 use console_words::wrong;
+use std::env::Env;
+use std::io;
+use std::io::{Input, Read};
+use std::rt::Files;
 use terminal::lines::{Ending, blanks_to_zeros, from_start, read_line};
 use terminal_words::{same, word};
 
 // One line of a script: a call, which is shown before its answer, or a comment or nothing, which is shown.
-fn take(text: &mut [u8], manual: &[u8]) {
+fn take(rt: &(impl Files + Input + Print), text: &mut [u8], manual: &[u8]) -> io::Result<()> {
     if files::is_comment(text) {
-        terminal::say(text);
-        terminal::say(b"\n");
-        return;
+        terminal::say(rt, text)?;
+        return terminal::say(rt, b"\n");
     }
-    terminal::say(b"$ wicket ");
-    terminal::say(text);
-    terminal::say(b"\n");
+    terminal::say(rt, b"$ wicket ")?;
+    terminal::say(rt, text)?;
+    terminal::say(rt, b"\n")?;
     blanks_to_zeros(text);
-    commands::call(text, manual);
+    commands::call(rt, text, manual)
 }
 
 // All lines of a script.
-fn run_all(file: i32, chunk: &mut [u8], text: &mut [u8], manual: &[u8]) {
+fn run_all<R: Read + Drop>(
+    rt: &(impl Files + Input + Print),
+    file: R,
+    chunk: &mut [u8],
+    text: &mut [u8],
+    manual: &[u8],
+) -> io::Result<()> {
     let mut source = from_start(file);
     let mut line: u64 = 0;
     while line < u64::MAX {
@@ -33,51 +42,46 @@ fn run_all(file: i32, chunk: &mut [u8], text: &mut [u8], manual: &[u8]) {
         let length = read.length;
         let ending = read.ending;
         match ending {
-            Ending::Whole => take(&mut text[..length], manual),
-            Ending::TooLong => files::too_long(line),
-            Ending::Failed => {
-                files::unread(line);
-                return;
-            }
-            Ending::End => return,
+            Ending::Whole => take(rt, &mut text[..length], manual)?,
+            Ending::TooLong => files::too_long(rt, line)?,
+            Ending::Failed => return files::unread(rt, line),
+            Ending::End => return Ok(()),
         }
     }
+    Ok(())
 }
 
 // wicket script FILE
-fn script(path: &[u8], manual: &[u8]) {
-    let file = files::open(path);
-    if file < 0 {
-        return;
-    }
-    let mut chunk = io::buffer();
-    let mut text = io::large_buffer();
-    run_all(file, &mut chunk, &mut text, manual);
-    libc::close(file);
+fn script(rt: &(impl Files + Input + Print), path: &[u8], manual: &[u8]) -> io::Result<()> {
+    let Some(file) = files::open(rt, path)? else {
+        return Ok(());
+    };
+    let mut chunk = [0u8; 4096];
+    let mut text = [0u8; 65536];
+    run_all(rt, file, &mut chunk, &mut text, manual)
 }
 
 // A call that is a script, or any other command.
-fn start(line: &[u8], manual: &[u8]) {
+fn start(rt: &(impl Files + Input + Print), line: &[u8], manual: &[u8]) -> io::Result<()> {
     if same(word(line, 0, END), b"script") {
-        if is_well_made(line, manual) {
-            script(word(line, 1, END), manual);
+        if is_well_made(rt, line, manual)? {
+            script(rt, word(line, 1, END), manual)?;
         }
-        return;
+        return Ok(());
     }
-    commands::call(line, manual);
+    commands::call(rt, line, manual)
 }
 
 // The program's own call, by its arguments.
-pub fn program(manual: &[u8]) {
-    let mut line = io::large_buffer();
-    let gathered = gather(&mut line);
+pub fn program(rt: &(impl Env + Files + Input + Print), manual: &[u8]) -> io::Result<()> {
+    let mut line = [0u8; 65536];
+    let gathered = gather(rt, &mut line);
     let length = gathered.length;
     if gathered.too_long != 0 {
-        wrong(b"call");
-        terminal::say(b"no room for argument ");
-        terminal::say_number(gathered.too_long as u64);
-        terminal::say(b"\n");
-        return;
+        wrong(rt, b"call")?;
+        terminal::say(rt, b"no room for argument ")?;
+        terminal::say_number(rt, gathered.too_long as u64)?;
+        return terminal::say(rt, b"\n");
     }
-    start(&line[..length], manual);
+    start(rt, &line[..length], manual)
 }

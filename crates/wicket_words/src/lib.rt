@@ -1,5 +1,6 @@
 // The words of a call that name something of a packet: a version, a side, a level, the greatest number acknowledged, keys.
 #![tactic(auto)]
+
 ghost use Rattle.std.specs.Prelude.{◌≡◌};
 ghost use Rattle.numbers_shortening.specs.Answers.{acknowledged_of};
 ghost use Rattle.keys.specs.Answers.{Made};
@@ -70,7 +71,7 @@ pub fn acknowledged(line: &[u8], index: usize) -> Acknowledged
 pub fn initial_of(line: &[u8]) -> MadeKeys
     ensures { Made (initial_named line.now) result }
 {
-    let mut id = io::buffer();
+    let mut id = [0u8; 4096];
     let length = fields::bytes(line, 2, &mut id);
     initial_keys(version(line, 1), &id[..length], side(line, 3))
 }

@@ -1,9 +1,8 @@
-use Prim.Native.Nat.{ℕ, ◌+◌, ◌*◌, ◌/◌, ◌%◌, min, ◌-◌, ◌≤◌}
+use Prim.Native.Nat.{ℕ, ◌+◌, ◌*◌, ◌/◌, ◌%◌, min, ◌≤◌}
 use mathlib.Core.Path.{ap₂, ◌≡◌, refl, sym, ap, ◌∙◌}
 use native.Mathlib.Omega.{arith}
-use borrow.Author.Rules.{rules}
 use lib.ListN.{get_or, set, length-set, length, take}
-use lib.Seq.{length-take-le, get_or-take, paste, paste-zero}
+use lib.Seq.{length-take-le, get_or-take, paste-zero}
 use Rattle.octets.proofs.Buffers.{lay-turn}
 use Rattle.digits_reading.specs.Digits.{pairs}
 use Rattle.digits_reading.proofs.Pairs.{pairs-length, pairs-at, lay-begun}
@@ -41,10 +40,10 @@ returns c =
     let long : length (pairs text) ≡ length text / 2 = pairs-length text in
     let all : length (take n.result (pairs text)) ≡ n.result = length-take-le n.result (pairs text) (omega arith) in
     let fits : n.result ≤ length l.buffer = omega arith in
-    let end : l.i ≡ length (take n.result (pairs text)) = omega arith in (
-      (fits, sym (length-take-le _ l.buffer fits)),
-      record {
+    let end : l.i ≡ length (take n.result (pairs text)) = omega arith in record {
+      prefix_len = (fits, sym (length-take-le _ l.buffer fits));
+      decoded = record {
         counted = n.ensures.0 ∙ ap (λ (k : ℕ). min k (length a.buffer.now)) (sym long);
         holds = lay-begun l.buffer a.buffer.now (take n.result (pairs text)) l.i end l.invariant.2;
-      },
-    )
+      };
+    }

@@ -1,9 +1,4 @@
-use Prim.Native.Nat.{◌+◌, ◌-◌, ◌≤◌}
-use mathlib.Core.Path.{◌≡◌}
 use native.Mathlib.Omega.{arith}
-use borrow.Author.Rules.{rules}
-use lib.ListN.{length, drop}
-use Rattle.digits_reading.specs.Digits.{run}
 use Rattle.digits_reading.proofs.Values.{run-turn, run-stops, run_ends}
 use Rattle.digits_reading.proofs.digits.Goals as goal
 

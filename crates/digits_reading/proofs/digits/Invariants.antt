@@ -1,11 +1,8 @@
 -- The characters passed and the run from there on make the whole run.
 use Prim.Native.Nat.{◌+◌, ◌-◌, ◌≤◌}
 use mathlib.Core.Path.{◌≡◌}
-use native.Mathlib.Omega.{arith}
-use borrow.Author.Rules.{rules}
 use lib.ListN.{length, drop}
 use Rattle.digits_reading.specs.Digits.{run}
-use Rattle.digits_reading.proofs.Values.{run-turn, run-stops, run_ends}
 use Rattle.digits_reading.proofs.digits.Given as goal
 
 abbrev pub invariant-loop-i : goal.invariant-loop-i

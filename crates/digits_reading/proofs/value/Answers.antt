@@ -1,7 +1,6 @@
 -- The tests on the way say where the character stands.
 use mathlib.Core.Path.{sym}
 use native.Mathlib.Omega.{arith}
-use borrow.Author.Rules.{rules}
 use Rattle.digits_reading.proofs.Values.{before-digits, at-digit, before-capitals, at-capital, before-letters, at-letter, behind-letters}
 use Rattle.digits_reading.proofs.value.Goals as goal
 

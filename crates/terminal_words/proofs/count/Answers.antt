@@ -1,12 +1,11 @@
-use Prim.Native.Nat.{ℕ, ◌+◌, ◌-◌, ◌≤◌}
-use mathlib.Core.Logic.{⊎_elim}
+use Prim.Native.Nat.{ℕ, ◌+◌}
 use mathlib.Core.Path.{◌≡◌, refl, sym, ap, ◌∙◌}
 use native.Mathlib.Omega.{arith}
-use borrow.Author.Rules.{rules}
 use lib.ListN.{length}
 use Rattle.terminal_words.specs.Words.{words_up_to}
 use Rattle.terminal_words.proofs.Separators.{count-one, count_none}
 use Rattle.terminal_words.proofs.count.Goals as goal
+use Rattle.terminal_words.proofs.count.Goals.{then-starts, else-starts}
 
 pub loop-at-init : goal.loop-at-init
 unfolding words_up_to
@@ -16,10 +15,10 @@ pub loop-at-preserved : goal.loop-at-preserved
 loop-at-preserved c =
     let l = c.loop-at in
     let s = c.starts.ensures in
-    ⊎_elim
-    (λ w. (omega arith, omega arith, w.1 ∙ ap (λ (n : ℕ). n + 1) l.invariant.2 ∙ sym (count-one _ _ l.at (sym s ∙ w.0.taken))))
-    (λ w. (omega arith, omega arith, w.1 ∙ l.invariant.2 ∙ sym (count_none _ _ l.at (sym s ∙ w.0.left))))
-    c.if-starts.branch
+    elim c.if-starts.branch [
+      | then-starts w ↦ (omega arith, omega arith, w.words-is ∙ ap (λ (n : ℕ). n + 1) l.invariant.2 ∙ sym (count-one _ _ l.at (sym s ∙ w.if-starts.true)))
+      | else-starts w ↦ (omega arith, omega arith, w.words-is ∙ l.invariant.2 ∙ sym (count_none _ _ l.at (sym s ∙ w.if-starts.false)))
+    ]
 
 pub returns : goal.returns
 returns c =

@@ -1,12 +1,8 @@
 -- The words that start among the characters passed are counted, and there are no more of them than characters.
-use Prim.Native.Nat.{ℕ, ◌+◌, ◌-◌, ◌≤◌}
-use mathlib.Core.Logic.{⊎_elim}
-use mathlib.Core.Path.{◌≡◌, refl, sym, ap, ◌∙◌}
-use native.Mathlib.Omega.{arith}
-use borrow.Author.Rules.{rules}
+use Prim.Native.Nat.{◌-◌, ◌≤◌}
+use mathlib.Core.Path.{◌≡◌}
 use lib.ListN.{length}
 use Rattle.terminal_words.specs.Words.{words_up_to}
-use Rattle.terminal_words.proofs.Separators.{count-one, count_none}
 use Rattle.terminal_words.proofs.count.Given as goal
 
 abbrev pub invariant-loop-at : goal.invariant-loop-at

@@ -1,12 +1,8 @@
 -- From the place on, what the definition passes is passed.
 use Prim.Native.Nat.{◌-◌, ◌≤◌}
 use mathlib.Core.Path.{◌≡◌}
-use native.Mathlib.Omega.{arith}
-use borrow.Author.Rules.{rules}
-use borrow.Author.Tests.{eq-eqb, ne_eqb}
 use lib.ListN.{length}
-use Rattle.terminal_words.specs.Words.{is, end_at}
-use Rattle.terminal_words.proofs.Separators.{until-turn, until-stops, until-ends}
+use Rattle.terminal_words.specs.Words.{end_at}
 use Rattle.terminal_words.proofs.next_separator.Given as goal
 
 abbrev pub invariant-loop-at : goal.invariant-loop-at

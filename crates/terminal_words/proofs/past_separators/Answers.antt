@@ -1,11 +1,8 @@
-use Prim.Native.Nat.{◌-◌, ◌≤◌}
 use mathlib.Core.Bool.{not}
-use mathlib.Core.Path.{◌≡◌, ap}
+use mathlib.Core.Path.{ap}
 use native.Mathlib.Omega.{arith}
-use borrow.Author.Rules.{rules}
 use borrow.Author.Tests.{eq-eqb, ne_eqb}
-use lib.ListN.{length}
-use Rattle.terminal_words.specs.Words.{is_not, past_at}
+use Rattle.terminal_words.specs.Words.{is_not}
 use Rattle.terminal_words.proofs.Separators.{until-turn, until-stops, until-ends}
 use Rattle.terminal_words.proofs.past_separators.Goals as goal
 

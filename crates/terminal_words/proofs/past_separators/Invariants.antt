@@ -1,13 +1,8 @@
 -- From the place on, what the definition passes is passed.
 use Prim.Native.Nat.{◌-◌, ◌≤◌}
-use mathlib.Core.Bool.{not}
-use mathlib.Core.Path.{◌≡◌, ap}
-use native.Mathlib.Omega.{arith}
-use borrow.Author.Rules.{rules}
-use borrow.Author.Tests.{eq-eqb, ne_eqb}
+use mathlib.Core.Path.{◌≡◌}
 use lib.ListN.{length}
-use Rattle.terminal_words.specs.Words.{is_not, past_at}
-use Rattle.terminal_words.proofs.Separators.{until-turn, until-stops, until-ends}
+use Rattle.terminal_words.specs.Words.{past_at}
 use Rattle.terminal_words.proofs.past_separators.Given as goal
 
 abbrev pub invariant-loop-at : goal.invariant-loop-at

@@ -1,6 +1,5 @@
 -- The tests on the way say what stands at the place and before it.
 use mathlib.Core.Path.{sym}
-use borrow.Author.Rules.{rules}
 use Rattle.terminal_words.proofs.Separators.{starts-ends, starts-not, starts_first, starts-behind}
 use Rattle.terminal_words.proofs.starts.Goals as goal
 

@@ -1,6 +1,4 @@
 -- The part from the word's start to the next separator.
-use Prim.Native.Nat.{◌-◌}
-use borrow.Author.Rules.{rules}
 use Rattle.terminal_words.proofs.Separators.{word-part}
 use Rattle.terminal_words.proofs.word.Goals as goal
 

@@ -1,8 +1,5 @@
-use Prim.Native.Nat.{◌-◌, ◌≤◌}
 use mathlib.Core.Path.{◌≡◌, ap, ◌∙◌}
 use native.Mathlib.Omega.{arith}
-use borrow.Author.Rules.{rules}
-use lib.ListN.{length}
 use Rattle.terminal_words.specs.Words.{word_at}
 use Rattle.terminal_words.proofs.Separators.{word_first, word_next}
 use Rattle.terminal_words.proofs.word_start.Goals as goal

@@ -1,11 +1,8 @@
 -- After i turns the place is where the word of index i starts.
 use Prim.Native.Nat.{◌-◌, ◌≤◌}
-use mathlib.Core.Path.{◌≡◌, ap, ◌∙◌}
-use native.Mathlib.Omega.{arith}
-use borrow.Author.Rules.{rules}
+use mathlib.Core.Path.{◌≡◌}
 use lib.ListN.{length}
 use Rattle.terminal_words.specs.Words.{word_at}
-use Rattle.terminal_words.proofs.Separators.{word_first, word_next}
 use Rattle.terminal_words.proofs.word_start.Given as goal
 
 abbrev pub invariant-loop-i : goal.invariant-loop-i

@@ -1,0 +1,25 @@
+use mathlib.Core.Path.{refl, sym, ◌∙◌}
+use native.Mathlib.Omega.{arith}
+use lib.ListN.{length-set}
+use Rattle.terminal.proofs.Blanks.{zero_turn, zero-ends}
+use Rattle.terminal.proofs.lines.blanks_to_zeros.Goals as goal
+
+pub loop-i-init : goal.loop-i-init
+loop-i-init c = (omega arith, refl, refl)
+
+pub loop-i-smaller : goal.loop-i-smaller
+loop-i-smaller c = simp length-set (omega arith)
+
+pub loop-i-preserved : goal.loop-i-preserved
+loop-i-preserved c =
+    let l = c.loop-i in
+    let w = c.without_blank in (
+      simp length-set (omega arith),
+      simp length-set l.invariant.1,
+      zero_turn l.text l.i w.result (omega arith) w.ensures ∙ l.invariant.2,
+    )
+
+pub returns : goal.returns
+returns c =
+    let l = c.loop-i in
+    sym (zero-ends l.text l.i (omega arith)) ∙ l.invariant.2

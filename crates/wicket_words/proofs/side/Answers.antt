@@ -1,0 +1,20 @@
+-- The word is compared.
+use Prim.Native.Nat.{ℕ}
+use mathlib.Core.List.{List}
+use mathlib.Core.Path.{sym, ap, ◌∙◌}
+use borrow.Author.Rules.{rules}
+use Rattle.octets.specs.Octets.{same}
+use Rattle.octets.specs.Text.{ascii}
+use Rattle.wicket_words.proofs.side.Goals as goal
+
+pub returns-then-same : goal.returns-then-same
+unfolding ascii
+returns-then-same c =
+    let is = c.same.ensures ∙ ap (λ (t : List ℕ). same t (ascii "server")) c.word.ensures in
+    rw (sym is ∙ c.if-same.true)
+
+pub returns : goal.returns
+unfolding ascii
+returns c =
+    let is = c.same.ensures ∙ ap (λ (t : List ℕ). same t (ascii "server")) c.word.ensures in
+    rw (sym is ∙ c.if-same.false)
