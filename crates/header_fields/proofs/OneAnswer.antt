@@ -6,7 +6,6 @@ use Rattle.header_fields.specs.Fields as Section17
 use Rattle.header_fields.specs.Answers.{found_answer}
 use Rattle.header_fields.specs.declared.Place.{Place}
 use Rattle.header_fields.specs.declared.Found.{Found}
-use Rattle.header_fields.specs.declared.Found.TheVariants as Found
 
 abbrev pub place_back : Section17.Place → Place
 place_back p = record { at = p.at; len = p.len }

@@ -5,7 +5,6 @@ use Rattle.octets.specs.Octets.{part}
 use Rattle.header_fields.specs.Fields as Section17
 use Rattle.header_fields.specs.declared.Place.{Place}
 use Rattle.header_fields.specs.declared.Found.{Found}
-use Rattle.header_fields.specs.declared.Found.TheVariants as Found
 
 abbrev pub place_of : Place → Section17.Place
 place_of p = record { at = p.at; len = p.len }

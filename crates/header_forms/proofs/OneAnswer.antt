@@ -4,7 +4,6 @@ use Rattle.octets.specs.Outcome.{Outcome, refused, given}
 use Rattle.octets.proofs.Outcome.{once}
 use Rattle.header_forms.specs.Answers.{formed_answer}
 use Rattle.header_forms.specs.declared.Formed.{Formed}
-use Rattle.header_forms.specs.declared.Formed.TheVariants as Formed
 
 formed_back : Outcome (Unit {0}) → Formed
 formed_back (refused n) = Formed.Refused n

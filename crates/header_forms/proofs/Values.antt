@@ -3,7 +3,6 @@ use Prim.Native.Nat.{◌^◌}
 use mathlib.Core.Path.{◌≡◌, refl}
 use Rattle.header_forms.specs.Answers.{form_of}
 use Rattle.header_forms.specs.declared.Form.{Form}
-use Rattle.header_forms.specs.declared.Form.TheVariants as Form
 
 pub top-bits : (form : Form) → 3 ≡ (form_of form).top_bits
 top-bits Form.Long = refl

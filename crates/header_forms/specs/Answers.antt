@@ -2,9 +2,7 @@
 use Rattle.octets.specs.Outcome.{Outcome, refused, given}
 use Rattle.header_forms.specs.Forms as First
 use Rattle.header_forms.specs.declared.Form.{Form}
-use Rattle.header_forms.specs.declared.Form.TheVariants as Form
 use Rattle.header_forms.specs.declared.Formed.{Formed}
-use Rattle.header_forms.specs.declared.Formed.TheVariants as Formed
 
 abbrev pub form_of : Form → First.Form
 form_of Form.Long = First.long_form

@@ -7,7 +7,6 @@ use Rattle.header_fields.proofs.OneAnswer.{place_back}
 use Rattle.header_long.specs.LongHeader as Section17
 use Rattle.header_long.specs.Answers.{long_answer}
 use Rattle.header_long.specs.declared.LongReading.{LongReading}
-use Rattle.header_long.specs.declared.LongReading.TheVariants as LongReading
 
 long_back : Outcome (Section17.Long ℕ) → LongReading
 long_back (refused n) = LongReading.Refused n

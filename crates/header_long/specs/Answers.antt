@@ -6,17 +6,12 @@ use Rattle.header_fields.specs.Answers.{place_of}
 use Rattle.header_long.specs.LongHeader as Section17
 use Rattle.header_long.specs.LongHeader.{only_level, only_retry}
 use Rattle.header_long.specs.declared.Versions.{Versions}
-use Rattle.header_long.specs.declared.Versions.TheVariants as Versions
 use Rattle.header_long.specs.declared.Types.{Types}
-use Rattle.header_long.specs.declared.Types.TheVariants as Types
 use Rattle.header_long.specs.declared.Judge.{Judge}
 use Rattle.header_long.specs.declared.Version.{Version as VersionRead}
-use Rattle.header_long.specs.declared.Version.TheVariants as VersionRead
 use Rattle.header_long.specs.declared.Judgement.{Judgement}
-use Rattle.header_long.specs.declared.Judgement.TheVariants as Judgement
 use Rattle.header_long.specs.declared.Long.{Long}
 use Rattle.header_long.specs.declared.LongReading.{LongReading}
-use Rattle.header_long.specs.declared.LongReading.TheVariants as LongReading
 
 -- ---- what is asked for
 -- any known version, or one alone

@@ -8,7 +8,6 @@ use Rattle.header_fields.proofs.OneAnswer.{place_back}
 use Rattle.header_reading.specs.PacketHeader as Section17
 use Rattle.header_reading.specs.Answers.{reading_answer, ReadHeader}
 use Rattle.header_reading.specs.declared.Reading.{Reading}
-use Rattle.header_reading.specs.declared.Reading.TheVariants as Reading
 
 reading_back : Outcome Section17.Header → Reading
 reading_back (refused n) = Reading.Refused n

@@ -6,10 +6,8 @@ use Rattle.header_fields.specs.Answers.{place_of}
 use Rattle.header_reading.specs.PacketHeader as Section17
 use Rattle.header_reading.specs.PacketHeader.{any_header}
 use Rattle.header_reading.specs.declared.TokenFound.{TokenFound}
-use Rattle.header_reading.specs.declared.TokenFound.TheVariants as TokenFound
 use Rattle.header_reading.specs.declared.Header.{Header}
 use Rattle.header_reading.specs.declared.Reading.{Reading}
-use Rattle.header_reading.specs.declared.Reading.TheVariants as Reading
 
 abbrev pub token_answer : TokenFound → Outcome Section17.Token
 token_answer (TokenFound.Refused n) = refused n

@@ -13,7 +13,6 @@ use Rattle.header_writing.specs.Written as Section17
 use Rattle.header_writing.specs.Written.{with_length, long_fields, token_bytes, packet_fields, size_before_number}
 use Rattle.header_writing.specs.Answers.{token_of, token_size}
 use Rattle.header_writing.specs.declared.TokenField.{TokenField}
-use Rattle.header_writing.specs.declared.TokenField.TheVariants as TokenField
 
 pub long-length : (v : ℕ) (destination source : List ℕ) → length (long_fields v destination source) ≡ 6 + length destination + length source
 unfolding long_fields

@@ -4,7 +4,6 @@ use Rattle.integers_writing.specs.Written.{smallest}
 use Rattle.header_writing.specs.Written as Section17
 use Rattle.header_writing.specs.Written.{writes}
 use Rattle.header_writing.specs.declared.TokenField.{TokenField}
-use Rattle.header_writing.specs.declared.TokenField.TheVariants as TokenField
 
 -- a token that is handed over with no field for it is not looked at
 abbrev pub token_of : TokenField → (token : List ℕ) → Section17.TokenField

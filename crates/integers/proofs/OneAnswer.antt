@@ -7,7 +7,6 @@ use Rattle.octets.proofs.Outcome.{once}
 use Rattle.integers.specs.Integer as Section16
 use Rattle.integers.specs.Answers.{integer_answer, ReadInteger}
 use Rattle.integers.specs.declared.Integer.{Integer}
-use Rattle.integers.specs.declared.Integer.TheVariants as Integer
 
 integer_back : Outcome Section16.Integer → Integer
 integer_back (refused n) = Integer.Refused n

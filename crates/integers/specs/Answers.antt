@@ -4,7 +4,6 @@ use Rattle.octets.specs.Outcome.{Outcome, refused, given}
 use Rattle.integers.specs.Integer as Section16
 use Rattle.integers.specs.Integer.{integer}
 use Rattle.integers.specs.declared.Integer.{Integer}
-use Rattle.integers.specs.declared.Integer.TheVariants as Integer
 
 abbrev pub integer_answer : Integer → Outcome Section16.Integer
 integer_answer (Integer.Refused n) = refused n

@@ -1,6 +1,6 @@
 -- RFC 9000 section 16: variable-length integers.
 use Rattle.std.specs.Prelude.{ℕ, ◌-◌, ◌*◌, ◌/◌, ◌%◌, ◌^◌, List, leb, length, get_or, take}
-use Rattle.octets.specs.Outcome.{Outcome, given, unless, ◌>>=◌, ◌>>◌}
+use Rattle.octets.specs.Outcome.{Outcome, given, unless, ◌>>◌}
 use Rattle.octets.specs.Octets.{number}
 
 pub record Integer : Type 0 where

@@ -1,6 +1,6 @@
 // RFC 9000 sections 12.3 and 17.1: packet numbers, full in the session and short on the wire.
-
 #![tactic(auto)]
+
 // How many full numbers there are: they run from 0 to 2^62 - 1.
 pub const NUMBERS: u64 = 1 << 62;
 

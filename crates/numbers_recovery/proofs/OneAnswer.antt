@@ -6,7 +6,6 @@ use Rattle.octets.proofs.Outcome.{once}
 use Rattle.numbers.specs.declared.TruncatedPn.{TruncatedPn}
 use Rattle.numbers_recovery.specs.Answers.{recovered_answer, Recover}
 use Rattle.numbers_recovery.specs.declared.Recovered.{Recovered}
-use Rattle.numbers_recovery.specs.declared.Recovered.TheVariants as Recovered
 
 recovered_back : Outcome ℕ → Recovered
 recovered_back (refused n) = Recovered.Refused n

@@ -1,11 +1,9 @@
 -- The code's answer as the outcome it stands for, and what recovery promises of it.
 use Rattle.std.specs.Prelude.{ℕ, ◌≡◌}
 use Rattle.octets.specs.Outcome.{Outcome, refused, given}
-use Rattle.numbers.specs.declared.FullPn.{FullPn}
 use Rattle.numbers.specs.declared.TruncatedPn.{TruncatedPn}
 use Rattle.numbers_recovery.specs.Recovery.{recovered}
 use Rattle.numbers_recovery.specs.declared.Recovered.{Recovered}
-use Rattle.numbers_recovery.specs.declared.Recovered.TheVariants as Recovered
 
 abbrev pub recovered_answer : Recovered → Outcome ℕ
 recovered_answer (Recovered.Refused n) = refused n

@@ -1,6 +1,6 @@
 -- RFC 9000 appendix A.3: the full number that a short one stands for, where e is expected, over whole numbers.
 use Rattle.std.specs.Prelude.{ℕ, ◌+◌, ◌-◌, ◌*◌, ◌/◌, ◌≤◌, ◌<◌, ◌&&◌, cond, leb, ltb}
-use Rattle.octets.specs.Outcome.{Outcome, given, unless, ◌>>=◌, ◌>>◌}
+use Rattle.octets.specs.Outcome.{Outcome, given, unless, ◌>>◌}
 use Rattle.numbers.specs.Numbers.{numbers, window, half}
 
 -- the number in the expected number's own window that ends in t

@@ -7,9 +7,7 @@ use Rattle.numbers.specs.declared.FullPn.{FullPn}
 use Rattle.numbers_shortening.specs.Answers.{smallest_answer, shortened_answer, SmallestLength, Shorten}
 use Rattle.numbers_shortening.specs.declared.Acknowledged.{Acknowledged}
 use Rattle.numbers_shortening.specs.declared.Smallest.{Smallest}
-use Rattle.numbers_shortening.specs.declared.Smallest.TheVariants as Smallest
 use Rattle.numbers_shortening.specs.declared.Shortened.{Shortened}
-use Rattle.numbers_shortening.specs.declared.Shortened.TheVariants as Shortened
 
 smallest_back : Outcome ℕ → Smallest
 smallest_back (refused n) = Smallest.Refused n

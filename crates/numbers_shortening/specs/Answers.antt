@@ -2,17 +2,12 @@
 use Rattle.std.specs.Prelude.{ℕ, ◌≡◌}
 use Rattle.octets.specs.Outcome.{Outcome, refused, given}
 use Rattle.numbers.specs.declared.FullPn.{FullPn}
-use Rattle.numbers.specs.declared.TruncatedPn.{TruncatedPn}
 use Rattle.numbers_shortening.specs.Shortening as Section17
 use Rattle.numbers_shortening.specs.Shortening.{smallest_length, shortened}
 use Rattle.numbers_shortening.specs.declared.Acknowledged.{Acknowledged}
-use Rattle.numbers_shortening.specs.declared.Acknowledged.TheVariants as Acknowledged
 use Rattle.numbers_shortening.specs.declared.Gap.{Gap}
-use Rattle.numbers_shortening.specs.declared.Gap.TheVariants as Gap
 use Rattle.numbers_shortening.specs.declared.Smallest.{Smallest}
-use Rattle.numbers_shortening.specs.declared.Smallest.TheVariants as Smallest
 use Rattle.numbers_shortening.specs.declared.Shortened.{Shortened}
-use Rattle.numbers_shortening.specs.declared.Shortened.TheVariants as Shortened
 
 abbrev pub acknowledged_of : Acknowledged → Section17.Acknowledged
 acknowledged_of Acknowledged.Nothing = Section17.nothing

@@ -5,7 +5,6 @@ use Rattle.octets.specs.Outcome.{Outcome, refused, given}
 use Rattle.octets.proofs.Outcome.{once}
 use Rattle.versions.specs.Answers.{level_answer}
 use Rattle.versions.specs.declared.Leveled.{Leveled}
-use Rattle.versions.specs.declared.Leveled.TheVariants as Leveled
 
 abbrev level_back : Outcome ℕ → Leveled
 level_back (refused n) = Leveled.Refused n

@@ -2,7 +2,6 @@
 use Rattle.std.specs.Prelude.{ℕ}
 use Rattle.octets.specs.Outcome.{Outcome, refused, given}
 use Rattle.versions.specs.declared.Leveled.{Leveled}
-use Rattle.versions.specs.declared.Leveled.TheVariants as Leveled
 
 abbrev pub level_answer : Leveled → Outcome ℕ
 level_answer (Leveled.Refused n) = refused n

@@ -1,6 +1,5 @@
 -- Four times four steps.
 use mathlib.Core.Path.{sym, ap, ◌∙◌}
-use borrow.Author.Rules.{rules}
 use Rattle.gcm_field.specs.Field.{num, nexts}
 use Rattle.gcm_field.proofs.Linear.{nexts-add}
 use Rattle.gcm_field.proofs.next_run.Goals as goal

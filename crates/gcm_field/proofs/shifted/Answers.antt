@@ -1,7 +1,6 @@
 -- A shift of two words by one.
 use mathlib.Core.Path.{refl}
 use native.Mathlib.Omega.{arith}
-use borrow.Author.Rules.{rules}
 use Rattle.gcm_field.proofs.Words.{shift_one}
 use Rattle.gcm_field.proofs.shifted.Goals as goal
 

@@ -1,6 +1,5 @@
 -- A shift of two words by four.
 use native.Mathlib.Omega.{arith}
-use borrow.Author.Rules.{rules}
 use Rattle.gcm_field.proofs.Words.{shift-four}
 use Rattle.gcm_field.proofs.shifted_by_four.Goals as goal
 

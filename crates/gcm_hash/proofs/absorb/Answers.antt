@@ -1,10 +1,8 @@
-use Prim.Native.Nat.{◌-◌, ◌≤◌, ◌<◌}
-use mathlib.Core.Path.{◌≡◌, refl, sym, ◌∙◌}
+use mathlib.Core.Path.{refl, sym, ◌∙◌}
 use native.Mathlib.Omega.{arith}
 use borrow.Author.Rules.{rules}
-use lib.ListN.{length, drop}
 use Rattle.gcm_table.specs.Table.{key_of}
-use Rattle.gcm_hash.specs.Hash.{state, absorbed}
+use Rattle.gcm_hash.specs.Hash.{state}
 use Rattle.gcm_hash.proofs.Stream.{absorbed-end}
 use Rattle.gcm_hash.proofs.absorb.Goals as goal
 

@@ -1,12 +1,9 @@
 -- What is left from the state so far gives what all bytes give from the first.
 use Prim.Native.Nat.{◌-◌, ◌≤◌, ◌<◌}
-use mathlib.Core.Path.{◌≡◌, refl, sym, ◌∙◌}
-use native.Mathlib.Omega.{arith}
-use borrow.Author.Rules.{rules}
+use mathlib.Core.Path.{◌≡◌}
 use lib.ListN.{length, drop}
 use Rattle.gcm_table.specs.Table.{key_of}
 use Rattle.gcm_hash.specs.Hash.{state, absorbed}
-use Rattle.gcm_hash.proofs.Stream.{absorbed-end}
 use Rattle.gcm_hash.proofs.absorb.Given as goal
 
 abbrev pub invariant-loop-at : goal.invariant-loop-at

@@ -2,7 +2,6 @@
 use Prim.Native.Nat.{ℕ, ◌+◌}
 use mathlib.Core.Path.{◌≡◌, sym, ap, ◌∙◌}
 use native.Mathlib.Omega.{arith}
-use borrow.Author.Rules.{rules}
 use Rattle.gcm_hash.proofs.Stream.{at, taken-inner, taken-last}
 use Rattle.gcm_field.specs.Field.{num, ◌•◌}
 use Rattle.gcm_table.specs.Table.{key_of}

@@ -1,7 +1,6 @@
 -- What is left is closed, then the lengths are one block more.
 use Prim.Native.Nat.{ℕ, ◌+◌, ◌*◌, ◌^◌}
 use mathlib.Core.Path.{ap, ◌∙◌}
-use borrow.Author.Rules.{rules}
 use lib.Bits.{bit_xor}
 use Rattle.gcm_hash.specs.Hash.{State, finished}
 use Rattle.gcm_field.specs.Field.{◌•◌}

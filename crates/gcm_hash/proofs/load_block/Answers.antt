@@ -2,7 +2,6 @@
 use Prim.Native.Nat.{ℕ, ◌+◌, ◌*◌, ◌^◌}
 use mathlib.Core.Path.{ap₂, ◌∙◌}
 use native.Mathlib.Omega.{arith}
-use borrow.Author.Rules.{rules}
 use Rattle.gcm_hash.proofs.Loading.{two-words}
 use Rattle.gcm_hash.proofs.load_block.Goals as goal
 

@@ -2,7 +2,6 @@
 use Prim.Native.Nat.{ℕ}
 use mathlib.Core.Path.{refl, sym, ap, ◌∙◌}
 use native.Mathlib.Omega.{arith}
-use borrow.Author.Rules.{rules}
 use Rattle.gcm_hash.proofs.Stream.{at, closed_some, closed_none}
 use Rattle.gcm_field.specs.Field.{num}
 use Rattle.gcm_table.specs.Table.{key_of}

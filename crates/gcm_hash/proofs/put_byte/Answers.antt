@@ -1,6 +1,5 @@
 -- The byte falls into the high word or the low one.
 use native.Mathlib.Omega.{arith}
-use borrow.Author.Rules.{rules}
 use Rattle.gcm_hash.proofs.Adding.{put-high, put_low}
 use Rattle.gcm_hash.proofs.put_byte.Goals as goal
 

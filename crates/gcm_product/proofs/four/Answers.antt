@@ -1,7 +1,6 @@
 -- Each entry is the share of one run.
 use Prim.Native.Nat.{ℕ, ◌+◌}
 use mathlib.Core.Path.{ap, ap₂, ◌∙◌}
-use borrow.Author.Rules.{rules}
 use lib.Bits.{bit_xor}
 use Rattle.gcm_product.proofs.Runs.{four_runs}
 use Rattle.gcm_table.specs.Table.{entry_of, key_of}

@@ -1,14 +1,9 @@
 -- After n bits of each run, Z holds their share of the product.
-use Prim.Native.Nat.{ℕ, ◌-◌, ◌/◌, ◌%◌, ◌^◌, ◌≤◌}
-use mathlib.Core.Path.{◌≡◌, refl, ap, ap₂, ◌∙◌, subst}
-use native.Mathlib.Omega.{arith}
-use borrow.Author.Rules.{rules}
-use lib.Bits.{bit_xor}
-use Rattle.gcm_field.proofs.Linear.{nexts-none}
+use Prim.Native.Nat.{◌-◌, ◌%◌, ◌≤◌}
+use mathlib.Core.Path.{◌≡◌}
 use Rattle.gcm_field.specs.Field.{num}
-use Rattle.gcm_product.specs.Runs.{runs}
 use Rattle.gcm_table.specs.Table.{key_of}
-use Rattle.gcm_product.proofs.Runs.{Partly, product-start, product-turn, product-end}
+use Rattle.gcm_product.proofs.Runs.{Partly}
 use Rattle.gcm_product.proofs.times.Given as goal
 
 abbrev pub invariant-loop-n : goal.invariant-loop-n

@@ -1,10 +1,8 @@
-use Prim.Native.Nat.{ℕ, ◌+◌, ◌-◌, ◌≤◌}
-use mathlib.Core.Path.{◌≡◌, ap, ◌∙◌}
+use mathlib.Core.Path.{ap, ◌∙◌}
 use native.Mathlib.Omega.{arith}
 use borrow.Author.Rules.{rules}
 use lib.ListN.{length, length-set}
-use Rattle.gcm_field.specs.Field.{num, nexts, steps}
-use Rattle.gcm_table.specs.Table.{Filled}
+use Rattle.gcm_field.specs.Field.{num}
 use Rattle.gcm_table.proofs.Filling.{double-turn}
 use Rattle.gcm_table.proofs.double.Goals as goal
 

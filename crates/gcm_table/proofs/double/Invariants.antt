@@ -1,12 +1,9 @@
 -- After k turns the entries below e + i + k are right, for every key for which the first ones and w are.
 use Prim.Native.Nat.{ℕ, ◌+◌, ◌-◌, ◌≤◌}
-use mathlib.Core.Path.{◌≡◌, ap, ◌∙◌}
-use native.Mathlib.Omega.{arith}
-use borrow.Author.Rules.{rules}
-use lib.ListN.{length, length-set}
+use mathlib.Core.Path.{◌≡◌}
+use lib.ListN.{length}
 use Rattle.gcm_field.specs.Field.{num, nexts, steps}
 use Rattle.gcm_table.specs.Table.{Filled}
-use Rattle.gcm_table.proofs.Filling.{double-turn}
 use Rattle.gcm_table.proofs.double.Given as goal
 
 abbrev pub invariant-loop-k : goal.invariant-loop-k

@@ -1,8 +1,6 @@
-use Prim.Native.Nat.{◌-◌, ◌%◌, ◌≤◌}
-use mathlib.Core.Path.{◌≡◌, refl, sym, ap, ◌∙◌}
+use mathlib.Core.Path.{refl, sym, ap, ◌∙◌}
 use native.Mathlib.Omega.{arith}
 use borrow.Author.Rules.{rules}
-use lib.ListN.{length}
 use Rattle.gcm_field.specs.Field.{num, nexts}
 use Rattle.gcm_table.specs.Table.{Filled}
 use Rattle.gcm_field.proofs.Linear.{nexts-none, nexts-add}

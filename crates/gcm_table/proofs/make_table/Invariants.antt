@@ -1,13 +1,9 @@
 -- The runs before e are filled, and V is that of the next.
 use Prim.Native.Nat.{◌-◌, ◌%◌, ◌≤◌}
-use mathlib.Core.Path.{◌≡◌, refl, sym, ap, ◌∙◌}
-use native.Mathlib.Omega.{arith}
-use borrow.Author.Rules.{rules}
+use mathlib.Core.Path.{◌≡◌}
 use lib.ListN.{length}
 use Rattle.gcm_field.specs.Field.{num, nexts}
 use Rattle.gcm_table.specs.Table.{Filled}
-use Rattle.gcm_field.proofs.Linear.{nexts-none, nexts-add}
-use Rattle.gcm_table.proofs.Filling.{filled-key, filled-table}
 use Rattle.gcm_table.proofs.make_table.Given as goal
 
 abbrev pub invariant-loop-e : goal.invariant-loop-e

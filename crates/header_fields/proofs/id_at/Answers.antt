@@ -1,6 +1,5 @@
 -- Each answer is one law.
 use mathlib.Core.Path.{sym}
-use borrow.Author.Rules.{rules}
 use native.Mathlib.Omega.{arith}
 use Rattle.header_fields.proofs.Fields.{id-none, id-long, id-short, id-whole}
 use Rattle.header_fields.proofs.id_at.Goals as goal

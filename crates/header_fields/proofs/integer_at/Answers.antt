@@ -1,10 +1,8 @@
 -- The integer ends within the datagram, since it takes no more than there is.
 use mathlib.Core.Path.{sym, ap, ◌∙◌}
-use borrow.Author.Rules.{rules}
 use native.Mathlib.Omega.{arith}
 use lib.ListN.{drop, length-drop}
 use Rattle.integers.specs.Integer.{integer}
-use Rattle.integers.specs.Answers.{integer_answer}
 use Rattle.octets.proofs.Parts.{to_end}
 use Rattle.header_fields.proofs.Fields.{integer-taken, integer-refused, integer-found}
 use Rattle.header_fields.proofs.integer_at.Goals as goal
@@ -12,17 +10,17 @@ use Rattle.header_fields.proofs.integer_at.Goals as goal
 pub overflow_add-result : goal.overflow_add-result
 overflow_add-result c =
     let a = c.args in
-    let is = sym (ap integer_answer c.in-Read.is) ∙ c.read_integer.ensures.answer ∙ ap integer (to_end a.datagram.now a.at) in
+    let is = c.in-Read.ensures.answer ∙ ap integer (to_end a.datagram.now a.at) in
     omega (arith, integer-taken (drop a.at a.datagram.now) is, length-drop a.at a.datagram.now)
 
 pub returns-in-Refused : goal.returns-in-Refused
 returns-in-Refused c =
     let a = c.args in
-    let is = sym (ap integer_answer c.in-Refused.is) ∙ c.read_integer.ensures.answer ∙ ap integer (to_end a.datagram.now a.at) in
+    let is = c.in-Refused.ensures.answer ∙ ap integer (to_end a.datagram.now a.at) in
     sym (integer-refused _ _ is)
 
 pub returns-in-Read : goal.returns-in-Read
 returns-in-Read c =
     let a = c.args in
-    let is = sym (ap integer_answer c.in-Read.is) ∙ c.read_integer.ensures.answer ∙ ap integer (to_end a.datagram.now a.at) in
+    let is = c.in-Read.ensures.answer ∙ ap integer (to_end a.datagram.now a.at) in
     sym (integer-found _ _ is)

@@ -1,6 +1,5 @@
 -- Each answer is one law.
 use mathlib.Core.Path.{sym, ◌∙◌}
-use borrow.Author.Rules.{rules}
 use Rattle.header_forms.proofs.Forms.{formed-empty, formed-large, formed-other, formed-right}
 use Rattle.header_forms.proofs.judge_form.Goals as goal
 

@@ -1,7 +1,6 @@
 -- The masked bits are the remainder by how many values they have.
 use Prim.Native.Nat.{ℕ, ◌%◌, ◌<◌}
 use mathlib.Core.Path.{sym, ap, subst}
-use borrow.Author.Rules.{rules}
 use lib.Bits.{bit_xor}
 use lib.Pow.{pow_pos}
 use Rattle.header_forms.specs.Forms.{masked_first}

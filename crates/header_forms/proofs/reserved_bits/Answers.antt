@@ -1,7 +1,6 @@
 -- What stands below them is divided away.
 use Prim.Native.Nat.{ℕ, ◌/◌, ◌%◌, ◌<◌}
 use mathlib.Core.Path.{sym, ap, subst}
-use borrow.Author.Rules.{rules}
 use lib.Pow.{pow_pos}
 use Rattle.header_forms.specs.Forms.{reserved_bits}
 use Rattle.header_forms.proofs.reserved_bits.Goals as goal

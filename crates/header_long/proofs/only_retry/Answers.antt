@@ -1,6 +1,5 @@
 -- The type, compared with Retry's.
 use mathlib.Core.Path.{sym, ◌∙◌}
-use borrow.Author.Rules.{rules}
 use Rattle.header_long.proofs.LongHeaders.{retry-other, retry-right}
 use Rattle.header_long.proofs.only_retry.Goals as goal
 

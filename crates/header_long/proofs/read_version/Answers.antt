@@ -1,6 +1,5 @@
 -- Each answer is one law.
 use mathlib.Core.Path.{sym, ap, ◌∙◌}
-use borrow.Author.Rules.{rules}
 use Rattle.octets.specs.Outcome.{given}
 use Rattle.header_long.proofs.LongHeaders.{version-short, version-found}
 use Rattle.header_long.proofs.read_version.Goals as goal

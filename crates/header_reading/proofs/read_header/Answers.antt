@@ -1,17 +1,15 @@
 -- The form is judged first, and then every known version is taken.
-use mathlib.Core.Path.{sym, ap, ◌∙◌}
-use borrow.Author.Rules.{rules}
-use Rattle.header_forms.specs.Answers.{formed_answer}
+use mathlib.Core.Path.{sym, ◌∙◌}
 use Rattle.octets.proofs.Outcome.{refused-first, given-first}
 use Rattle.header_reading.specs.PacketHeader.{any_header}
 use Rattle.header_reading.proofs.read_header.Goals as goal
 
 pub returns-in-Refused : goal.returns-in-Refused
 unfolding any_header
-returns-in-Refused c = record { answer = sym (refused-first _ (sym (ap formed_answer c.in-Refused.is) ∙ c.judge_form.ensures)) }
+returns-in-Refused c = record { answer = sym (refused-first _ c.in-Refused.ensures) }
 
 pub returns : goal.returns
 unfolding any_header
 returns c =
-    let formed = sym (ap formed_answer c.in-Right.is) ∙ c.judge_form.ensures in
+    let formed = c.in-Right.ensures in
     record { answer = c.read_fields.ensures ∙ sym (given-first _ formed) }

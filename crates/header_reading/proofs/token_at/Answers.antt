@@ -1,9 +1,7 @@
 -- An Initial's token is a field, and no other level has one.
-use mathlib.Core.Path.{sym, ap, ◌∙◌}
-use borrow.Author.Rules.{rules}
+use mathlib.Core.Path.{sym}
 use borrow.Author.Tests.{eq-eqb, ne_eqb}
 use native.Mathlib.Omega.{arith}
-use Rattle.header_fields.specs.Answers.{found_answer}
 use Rattle.header_fields.proofs.Fields.{field-within}
 use Rattle.header_reading.proofs.PacketHeaders.{token-none, token-refused, token-found}
 use Rattle.header_reading.proofs.token_at.Goals as goal
@@ -12,12 +10,12 @@ pub returns-then-level-ne-INITIAL : goal.returns-then-level-ne-INITIAL
 returns-then-level-ne-INITIAL c = sym (token-none _ _ _ (ne_eqb _ _ c.if-level-ne-INITIAL.true))
 
 pub returns-in-Refused : goal.returns-in-Refused
-returns-in-Refused c = sym (token-refused _ _ _ (eq-eqb _ _ c.if-level-ne-INITIAL.false) (sym (ap found_answer c.in-Refused.is) ∙ c.field_at.ensures))
+returns-in-Refused c = sym (token-refused _ _ _ (eq-eqb _ _ c.if-level-ne-INITIAL.false) c.in-Refused.ensures)
 
 pub overflow_add-result : goal.overflow_add-result
 overflow_add-result c =
-    let within = field-within _ _ c.requires (sym (ap found_answer c.in-At.is) ∙ c.field_at.ensures) in
+    let within = field-within _ _ c.requires c.in-At.ensures in
     omega arith
 
 pub returns : goal.returns
-returns c = sym (token-found _ _ _ (eq-eqb _ _ c.if-level-ne-INITIAL.false) (sym (ap found_answer c.in-At.is) ∙ c.field_at.ensures))
+returns c = sym (token-found _ _ _ (eq-eqb _ _ c.if-level-ne-INITIAL.false) c.in-At.ensures)

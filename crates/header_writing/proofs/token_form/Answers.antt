@@ -1,7 +1,6 @@
 -- As the field has it.
 use Prim.Native.Nat.{ℕ, ◌+◌, ◌^◌, ◌<◌}
 use mathlib.Core.Path.{sym, ap, subst, ◌∙◌}
-use borrow.Author.Rules.{rules}
 use native.Mathlib.Omega.{arith}
 use Rattle.header_writing.specs.Answers.{token_size}
 use Rattle.header_writing.specs.declared.TokenField.{TokenField}

@@ -1,7 +1,6 @@
 -- Each field goes on where the one before it ends.
 use Prim.Native.Nat.{ℕ, ◌+◌}
 use mathlib.Core.List.{List, ◌∷◌, ◌++◌}
-use borrow.Author.Rules.{rules}
 use native.Mathlib.Omega.{arith}
 use lib.ListN.{length-append}
 use Rattle.octets.proofs.Buffers.{goes_on}

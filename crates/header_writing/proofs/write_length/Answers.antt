@@ -1,5 +1,4 @@
 -- No Length within the limit is over two bytes.
-use borrow.Author.Rules.{rules}
 use native.Mathlib.Omega.{arith}
 use Rattle.integers_writing.proofs.Forms.{two_bytes}
 use Rattle.header_writing.proofs.write_length.Goals as goal

@@ -2,7 +2,6 @@
 use Prim.Native.Nat.{ℕ, ◌+◌, ◌^◌, ◌≤◌, ◌<◌}
 use mathlib.Core.Path.{sym, ap, subst, ◌∙◌}
 use mathlib.Core.List.{List}
-use borrow.Author.Rules.{rules}
 use native.Mathlib.Omega.{arith}
 use lib.ListN.{length, length-append}
 use Rattle.octets.specs.Octets.{laid}
@@ -25,7 +24,6 @@ pub overflow_add-at : goal.overflow_add-at
 overflow_add-at c =
     let a = c.args in
     let fits = subst (λ (f : TokenField). a.at + length (token_bytes (token_of f a.token.now)) ≤ length a.buffer.now) c.in-Holding.is c.requires.1 in
-    let few = subst (λ (f : TokenField). length (token_bytes (token_of f a.token.now)) < 2 ^ 30) c.in-Holding.is c.requires.0 in
     let both = length-append (smallest (length a.token.now)) a.token.now in
     omega (arith, fits, both, c.smallest_form.ensures)
 
@@ -33,7 +31,6 @@ pub copy-requires : goal.copy-requires
 copy-requires c =
     let a = c.args in
     let fits = subst (λ (f : TokenField). a.at + length (token_bytes (token_of f a.token.now)) ≤ length a.buffer.now) c.in-Holding.is c.requires.1 in
-    let few = subst (λ (f : TokenField). length (token_bytes (token_of f a.token.now)) < 2 ^ 30) c.in-Holding.is c.requires.0 in
     let both = length-append (smallest (length a.token.now)) a.token.now in
     omega (arith, fits, both, c.smallest_form.ensures, c.write_smallest.auto)
 
@@ -41,7 +38,6 @@ pub returns-in-Holding : goal.returns-in-Holding
 returns-in-Holding c =
     let a = c.args in
     let fits = subst (λ (f : TokenField). a.at + length (token_bytes (token_of f a.token.now)) ≤ length a.buffer.now) c.in-Holding.is c.requires.1 in
-    let few = subst (λ (f : TokenField). length (token_bytes (token_of f a.token.now)) < 2 ^ 30) c.in-Holding.is c.requires.0 in
     let both = length-append (smallest (length a.token.now)) a.token.now in
     let token = a.token.now in
     let size = c.smallest_form in

@@ -1,6 +1,5 @@
 -- The first byte says how many bytes there are: one, two, four or eight.
 use mathlib.Core.Path.{sym}
-use borrow.Author.Rules.{rules}
 use native.Mathlib.Omega.{arith}
 use lib.Pow.{pow_pos}
 use lib.Seq.{length-take-le}

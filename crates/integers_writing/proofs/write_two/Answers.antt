@@ -1,5 +1,4 @@
 -- The form's two bits are the number 2^14.
-use borrow.Author.Rules.{rules}
 use Rattle.integers_writing.specs.Written.{two}
 use Rattle.integers_writing.proofs.write_two.Goals as goal
 

@@ -1,9 +1,6 @@
 -- Each branch is a clause of the definition; no sum leaves a word.
 use mathlib.Core.Path.{sym}
-use mathlib.Core.Logic.{⊎_elim}
-use borrow.Author.Rules.{rules}
 use native.Mathlib.Omega.{arith}
-use borrow.Author.Tests.{ltb-true, ltb-false, leb-true, leb-false}
 use Rattle.numbers_recovery.proofs.Recovery.{decoded-above, decoded-top, decoded-below, decoded-bottom, decoded-here, half-size, window-size, window-start}
 use Rattle.numbers_recovery.proofs.decode.Goals as goal
 use Rattle.numbers_recovery.proofs.decode.Goals.{else-candidate-half-via-then-candidate-half+else-candidate-window-lt-NUMBERS, else-candidate-half-via-else-candidate-half}
@@ -51,9 +48,6 @@ overflow_add-expected c =
     let a = c.args in
     let h = c.power-half.ensures in
     rw h (omega (arith, window-size a.length (omega arith), half-size a.length))
-
-pub overflow_sub-result : goal.overflow_sub-result
-overflow_sub-result c = search rules
 
 pub returns-then-window-candidate : goal.returns-then-window-candidate
 returns-then-window-candidate c =

@@ -1,6 +1,5 @@
 -- Each refusal is one law, and so is the number.
 use mathlib.Core.Path.{sym, ap, ◌∙◌}
-use borrow.Author.Rules.{rules}
 use native.Mathlib.Omega.{arith}
 use Rattle.octets.specs.Outcome.{given}
 use Rattle.numbers_recovery.proofs.Recovery.{recover-far, recover-empty, recover-long, recover-wide, recover-range, recover-given}
@@ -19,11 +18,8 @@ pub returns-then-power-truncated : goal.returns-then-power-truncated
 returns-then-power-truncated c = record { answer = sym (recover-wide _ _ _ (omega arith) (omega arith) (omega arith) (omega arith)) }
 
 pub returns-then-full-ge-NUMBERS : goal.returns-then-full-ge-NUMBERS
-returns-then-full-ge-NUMBERS c =
-    let is = c.decode-full.ensures in
-    record { answer = sym (recover-range _ _ _ (omega arith) (omega arith) (omega arith) (omega arith) (omega arith)) }
+returns-then-full-ge-NUMBERS c = record { answer = sym (recover-range _ _ _ (omega arith) (omega arith) (omega arith) (omega arith) (omega arith)) }
 
 pub returns : goal.returns
 returns c =
-    let is = c.decode-full.ensures in
-    record { answer = ap given is ∙ sym (recover-given _ _ _ (omega arith) (omega arith) (omega arith) (omega arith) (omega arith)) }
+    record { answer = ap given c.decode-full.ensures ∙ sym (recover-given _ _ _ (omega arith) (omega arith) (omega arith) (omega arith) (omega arith)) }

@@ -1,6 +1,5 @@
 -- Each arm is the gap's own clause.
 use mathlib.Core.Path.{sym, ◌∙◌}
-use borrow.Author.Rules.{rules}
 use native.Mathlib.Omega.{arith}
 use Rattle.numbers_shortening.proofs.Shortening.{gap-range, gap-none, gap-behind, gap-ahead}
 use Rattle.numbers_shortening.proofs.gap_above.Goals as goal

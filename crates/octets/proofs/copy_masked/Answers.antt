@@ -1,15 +1,11 @@
-use mathlib.Core.Path.{◌≡◌, refl, sym, ap, ◌∙◌}
-use borrow.Author.Rules.{rules}
+use mathlib.Core.Path.{◌≡◌, sym, ap, ◌∙◌}
 use native.Mathlib.Omega.{arith}
 use lib.ListN.{length, length-set}
-use lib.Seq.{paste, paste-zero}
+use lib.Seq.{paste}
 use Rattle.octets.specs.Octets.{xor}
 use Rattle.octets.proofs.Xor.{xor-length, xor-at}
 use Rattle.octets.proofs.Buffers.{lay-turn, lay-end}
 use Rattle.octets.proofs.copy_masked.Goals as goal
-
-pub loop-i-init : goal.loop-i-init
-loop-i-init c = (search rules, refl, paste-zero c.args.buffer.now c.args.at (xor c.args.source.now c.args.mask.now))
 
 pub loop-i-preserved : goal.loop-i-preserved
 loop-i-preserved c =
@@ -23,9 +19,6 @@ loop-i-preserved c =
       lay-turn l.buffer a.buffer.now a.at (xor source mask) l.i _ (omega arith) (omega arith) l.invariant.2
           (sym (xor-at source mask l.i (omega arith) (omega arith))),
     )
-
-pub shape_of-buffer : goal.shape_of-buffer
-shape_of-buffer c = c.loop-i.invariant.1
 
 pub returns : goal.returns
 returns c =

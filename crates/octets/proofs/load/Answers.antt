@@ -1,15 +1,11 @@
 use Prim.Native.Nat.{◌+◌, ◌*◌, ◌^◌, ◌≤◌, ◌<◌}
-use mathlib.Core.Path.{◌≡◌, refl, sym, ap, ◌∙◌}
-use borrow.Author.Rules.{rules}
+use mathlib.Core.Path.{◌≡◌, sym, ap, ◌∙◌}
 use native.Mathlib.Omega.{arith}
 use lib.ListN.{length, drop_of_length-le}
 use lib.Pow.{pow_mono, pow-add}
 use Rattle.octets.specs.Octets.{number}
 use Rattle.octets.proofs.Numbers.{read_on, read-turn}
 use Rattle.octets.proofs.load.Goals as goal
-
-pub loop-i-init : goal.loop-i-init
-loop-i-init c = (search rules, search rules, refl)
 
 pub overflow_mul-value : goal.overflow_mul-value
 overflow_mul-value c =

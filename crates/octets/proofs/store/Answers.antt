@@ -1,15 +1,11 @@
-use mathlib.Core.Path.{◌≡◌, refl, sym, ap, ◌∙◌}
-use borrow.Author.Rules.{rules}
+use mathlib.Core.Path.{◌≡◌, sym, ap, ◌∙◌}
 use native.Mathlib.Omega.{arith}
 use lib.ListN.{length, length-set}
-use lib.Seq.{paste, paste-zero}
+use lib.Seq.{paste}
 use Rattle.octets.specs.Octets.{bytes}
 use Rattle.octets.proofs.Numbers.{bytes-length, byte-is}
 use Rattle.octets.proofs.Buffers.{lay-turn, lay-end}
 use Rattle.octets.proofs.store.Goals as goal
-
-pub loop-i-init : goal.loop-i-init
-loop-i-init c = (search rules, refl, paste-zero c.args.buffer.now c.args.at (bytes c.args.width c.args.value))
 
 pub loop-i-preserved : goal.loop-i-preserved
 loop-i-preserved c =
@@ -21,9 +17,6 @@ loop-i-preserved c =
       simp length-set l.invariant.1,
       lay-turn l.buffer a.buffer.now a.at s l.i _ (omega arith) (omega arith) l.invariant.2 (sym (byte-is a.width l.i a.value (omega arith))),
     )
-
-pub shape_of-buffer : goal.shape_of-buffer
-shape_of-buffer c = c.loop-i.invariant.1
 
 pub returns : goal.returns
 returns c =

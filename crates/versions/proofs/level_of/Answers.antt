@@ -1,6 +1,5 @@
 -- One comparison after the other.
 use mathlib.Core.Path.{sym, ◌∙◌}
-use borrow.Author.Rules.{rules}
 use Rattle.versions.proofs.Versions.{level-initial, level-zero-rtt, level-handshake, level-none}
 use Rattle.versions.proofs.level_of.Goals as goal
 

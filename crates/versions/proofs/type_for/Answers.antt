@@ -1,6 +1,5 @@
 -- One comparison after the other.
 use mathlib.Core.Path.{◌∙◌}
-use borrow.Author.Rules.{rules}
 use Rattle.versions.proofs.Versions.{type-initial, type-zero-rtt, type-handshake}
 use Rattle.versions.proofs.type_for.Goals as goal
 
