@@ -28,9 +28,9 @@ both : (a b : Bool) → T (a && b) → T a × T b
 both true b t = (tt, t)
 both false b t = absurd t
 
-is-root : (e n q : ℕ) → T (is_root e n q) → WholeRoot e n q
+whole-root : (e n q : ℕ) → T (is_root e n q) → WholeRoot e n q
 unfolding is_root
-is-root e n q t =
+whole-root e n q t =
     let h = both (leb (q ^ e) n) (ltb n ((q + 1) ^ e)) t in
     (leb→le (q ^ e) n h.0, ltb→lt n ((q + 1) ^ e) h.1)
 
@@ -44,7 +44,7 @@ rule e table passed t l =
     let p : ℕ = get_or primes t 0 in
     let fraction : ℕ = root e p * 2 ^ 32 + get_or table t 0 in
     let h = both (is_root e p (root e p)) (is_root e (p * 2 ^ (32 * e)) fraction) (at_each (test e) table passed t l) in
-    record { q = root e p; whole = is-root e p (root e p) h.0; bits = is-root e (p * 2 ^ (32 * e)) fraction h.1 }
+    record { q = root e p; whole = whole-root e p (root e p) h.0; bits = whole-root e (p * 2 ^ (32 * e)) fraction h.1 }
 
 -- the constants of FIPS 180-4 and the primes that they are made of
 pub record ConstantsRule : Type 0 where

@@ -1,5 +1,5 @@
 -- FIPS 180-4 section 6.2.2 steps 2 to 4: the working variables, round by round, and the next hash value, a list of eight words.
-use Rattle.std.specs.Prelude.{ℕ, zero, suc, List, [], ◌∷◌, map, slice_index, slice_index_or}
+use Rattle.std.specs.Prelude.{ℕ, zero, suc, List, [], ◌∷◌, map, get_or}
 use Rattle.sha256_constants.specs.Constants.{K}
 use Rattle.sha256_words.specs.Words.{◌⊞◌, Ch, Maj, Σ₀, Σ₁}
 
@@ -12,21 +12,21 @@ T₂ a b c = Σ₀ a ⊞ Maj a b c
 
 unfoldable pub round : ℕ → ℕ → List ℕ → List ℕ
 round k w v =
-    let a = slice_index_or v 0 0 in
-    let b = slice_index_or v 1 0 in
-    let c = slice_index_or v 2 0 in
-    let d = slice_index_or v 3 0 in
-    let e = slice_index_or v 4 0 in
-    let f = slice_index_or v 5 0 in
-    let g = slice_index_or v 6 0 in
-    let h = slice_index_or v 7 0 in
+    let a = get_or v 0 0 in
+    let b = get_or v 1 0 in
+    let c = get_or v 2 0 in
+    let d = get_or v 3 0 in
+    let e = get_or v 4 0 in
+    let f = get_or v 5 0 in
+    let g = get_or v 6 0 in
+    let h = get_or v 7 0 in
     (T₁ e f g h k w ⊞ T₂ a b c) ∷ a ∷ b ∷ c ∷ (d ⊞ T₁ e f g h k w) ∷ e ∷ f ∷ g ∷ []
 
 -- after t rounds, where w is the schedule
 unfoldable pub rounds : (ℕ → ℕ) → List ℕ → ℕ → List ℕ
 rounds w v zero = v
-rounds w v (suc t) = round (slice_index K t) (w t) (rounds w v t)
+rounds w v (suc t) = round (get_or K t 0) (w t) (rounds w v t)
 
 -- ---- 6.2.2 step 4: the next hash value
 abbrev pub added : List ℕ → List ℕ → List ℕ
-added v h = map (λ i. slice_index_or v i 0 ⊞ slice_index_or h i 0) (0 ∷ 1 ∷ 2 ∷ 3 ∷ 4 ∷ 5 ∷ 6 ∷ 7 ∷ [])
+added v h = map (λ i. get_or v i 0 ⊞ get_or h i 0) (0 ∷ 1 ∷ 2 ∷ 3 ∷ 4 ∷ 5 ∷ 6 ∷ 7 ∷ [])

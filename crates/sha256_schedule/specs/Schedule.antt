@@ -1,5 +1,5 @@
 -- FIPS 180-4 section 5.2.1 and section 6.2.2 step 1: a block's words, and the message schedule.
-use Rattle.std.specs.Prelude.{ℕ, zero, suc, List, [], ◌∷◌, ◌++◌, map, take, drop, slice_index, slice_index_or}
+use Rattle.std.specs.Prelude.{ℕ, zero, suc, List, [], ◌∷◌, ◌++◌, map, get_or, take, drop}
 use Rattle.octets.specs.Octets.{number}
 use Rattle.sha256_words.specs.Words.{◌⊞◌, σ₀, σ₁}
 
@@ -16,7 +16,7 @@ words block = map number (parsed 16 4 block)
 -- ---- 6.2.2 step 1: the message schedule
 -- W_t, from the sixteen words before it: W_(t-16) is the first of them
 abbrev pub next_word : List ℕ → ℕ
-next_word w = σ₁ (slice_index w 14) ⊞ slice_index_or w 9 0 ⊞ σ₀ (slice_index w 1) ⊞ slice_index_or w 0 0
+next_word w = σ₁ (get_or w 14 0) ⊞ get_or w 9 0 ⊞ σ₀ (get_or w 1 0) ⊞ get_or w 0 0
 
 -- the sixteen words W_t to W_(t+15)
 unfoldable pub window : List ℕ → ℕ → List ℕ
@@ -24,4 +24,4 @@ window m zero = m
 window m (suc t) = drop 1 (window m t) ++ (next_word (window m t) ∷ [])
 
 unfoldable pub W : List ℕ → ℕ → ℕ
-W m t = slice_index (window m t) 0
+W m t = get_or (window m t) 0 0

@@ -1,25 +1,12 @@
 -- The text holds the info with a one behind it.
 use Prim.Native.Nat.{ℕ, ◌+◌}
 use mathlib.Core.List.{List}
-use mathlib.Core.Path.{◌≡◌, refl, sym, ap, ◌∙◌}
-use borrow.Author.Rules.{rules}
-use native.Mathlib.Omega.{arith}
-use lib.ListN.{length, take, replicate, length-take, length-append}
-use lib.Seq.{length-take-le}
+use mathlib.Core.Path.{refl, ap, ◌∙◌}
+use lib.ListN.{length, take, replicate, length-append}
 use Rattle.octets.proofs.Buffers.{begun-front}
 use Rattle.hmac.specs.Hmac.{hmac}
 use Rattle.hkdf.proofs.Info.{text-written, first_block}
 use Rattle.hkdf.proofs.expand.Goals as goal
-
-pub slice_bounds-hmac-end-2 : goal.slice_bounds-hmac-end-2
-slice_bounds-hmac-end-2 c =
-    let stored = c.store in
-    let copied = c.copy in
-    let room : length stored.new.buffer ≡ 260 = stored.auto.buffer ∙ copied.auto.buffer in
-    sym (length-take-le _ stored.new.buffer (omega arith))
-
-pub hmac-requires : goal.hmac-requires
-hmac-requires c = (omega arith, simp length-take (omega arith))
 
 pub returns : goal.returns
 returns c =

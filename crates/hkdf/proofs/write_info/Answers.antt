@@ -1,6 +1,5 @@
 -- The five parts of the info, one behind the other.
 use mathlib.Core.Path.{refl}
-use borrow.Author.Rules.{rules}
 use Rattle.octets.specs.Text.{ascii}
 use Rattle.hkdf.specs.Hkdf.{tls13}
 use Rattle.hkdf.proofs.Info.{info-written}

@@ -1,6 +1,5 @@
 -- The actual key is the key's hash, or the key.
 use mathlib.Core.Path.{sym, ◌∙◌}
-use borrow.Author.Rules.{rules}
 use native.Mathlib.Omega.{arith}
 use Rattle.hmac.proofs.Keyed.{key-as-it-is, key-hashed, hmac-is}
 use Rattle.hmac.proofs.hmac.Goals as goal

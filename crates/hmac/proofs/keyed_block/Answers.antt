@@ -1,6 +1,5 @@
 -- The masked key over the pad bytes is the keyed block.
 use mathlib.Core.Path.{◌∙◌}
-use borrow.Author.Rules.{rules}
 use Rattle.hmac.proofs.Keyed.{keyed-is}
 use Rattle.hmac.proofs.keyed_block.Goals as goal
 

@@ -2,7 +2,6 @@
 use Prim.Native.Nat.{ℕ}
 use mathlib.Core.List.{List}
 use mathlib.Core.Path.{ap, ap₂, ◌∙◌}
-use borrow.Author.Rules.{rules}
 use Rattle.sha256.specs.Sha256.{compressed, finished}
 use Rattle.sha256.proofs.Blocks.{hash-behind}
 use Rattle.hmac.specs.Hmac.{keyed}

@@ -1,17 +1,9 @@
-use Prim.Native.Nat.{◌+◌, ◌-◌, ◌≤◌}
-use mathlib.Core.Path.{◌≡◌, refl, sym, ◌∙◌}
-use borrow.Author.Rules.{rules}
+use Prim.Native.Nat.{◌+◌, ◌-◌}
+use mathlib.Core.Path.{sym, ◌∙◌}
 use native.Mathlib.Omega.{arith}
-use lib.ListN.{length, drop, length-drop, length-take}
-use Rattle.sha256.specs.Sha256.{absorbed}
+use lib.ListN.{drop, length-drop}
 use Rattle.sha256.proofs.Blocks.{absorbed-none, absorbed-turn}
 use Rattle.sha256.proofs.absorb.Goals as goal
-
-pub loop-at-init : goal.loop-at-init
-loop-at-init c = (omega arith, refl)
-
-pub compress-next-requires : goal.compress-next-requires
-compress-next-requires c = (search rules, simp (length-take, length-drop) (omega arith))
 
 pub loop-at-preserved : goal.loop-at-preserved
 loop-at-preserved c =

@@ -1,11 +1,8 @@
 -- What is left to absorb, from the value so far, gives what all of the message gives from the start.
-use Prim.Native.Nat.{◌+◌, ◌-◌, ◌≤◌}
-use mathlib.Core.Path.{◌≡◌, refl, sym, ◌∙◌}
-use borrow.Author.Rules.{rules}
-use native.Mathlib.Omega.{arith}
-use lib.ListN.{length, drop, length-drop, length-take}
+use Prim.Native.Nat.{◌-◌, ◌≤◌}
+use mathlib.Core.Path.{◌≡◌}
+use lib.ListN.{length, drop}
 use Rattle.sha256.specs.Sha256.{absorbed}
-use Rattle.sha256.proofs.Blocks.{absorbed-none, absorbed-turn}
 use Rattle.sha256.proofs.absorb.Given as goal
 
 abbrev pub invariant-loop-at : goal.invariant-loop-at

@@ -1,6 +1,5 @@
 -- What the four callees ensure, put together.
 use mathlib.Core.Path.{◌∙◌}
-use borrow.Author.Rules.{rules}
 use Rattle.sha256.proofs.Compression.{compressed-is}
 use Rattle.sha256.proofs.compress.Goals as goal
 

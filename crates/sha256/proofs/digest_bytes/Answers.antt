@@ -1,11 +1,11 @@
-use Prim.Native.Nat.{ℕ, ◌-◌, ◌*◌, ◌≤◌}
+use Prim.Native.Nat.{ℕ, ◌*◌}
 use mathlib.Core.List.{List}
 use mathlib.Core.Path.{◌≡◌, refl, ap, ◌∙◌}
 use borrow.Author.Rules.{rules}
 use native.Mathlib.Omega.{arith}
 use lib.ListN.{length, get_or}
 use Rattle.octets.specs.Octets.{bytes, laid}
-use Rattle.sha256.proofs.Digest.{written, written_none, written-more, written_all}
+use Rattle.sha256.proofs.Digest.{written_none, written-more, written_all}
 use Rattle.sha256.proofs.digest_bytes.Goals as goal
 
 pub loop-i-init : goal.loop-i-init

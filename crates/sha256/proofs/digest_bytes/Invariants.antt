@@ -1,12 +1,8 @@
 -- After i turns the bytes of the first i words are written.
-use Prim.Native.Nat.{ℕ, ◌-◌, ◌*◌, ◌≤◌}
-use mathlib.Core.List.{List}
-use mathlib.Core.Path.{◌≡◌, refl, ap, ◌∙◌}
-use borrow.Author.Rules.{rules}
-use native.Mathlib.Omega.{arith}
-use lib.ListN.{length, get_or}
-use Rattle.octets.specs.Octets.{bytes, laid}
-use Rattle.sha256.proofs.Digest.{written, written_none, written-more, written_all}
+use Prim.Native.Nat.{◌-◌, ◌≤◌}
+use mathlib.Core.Path.{◌≡◌}
+use lib.ListN.{length}
+use Rattle.sha256.proofs.Digest.{written}
 use Rattle.sha256.proofs.digest_bytes.Given as goal
 
 abbrev pub invariant-loop-i : goal.invariant-loop-i

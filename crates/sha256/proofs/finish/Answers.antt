@@ -1,6 +1,5 @@
 -- The whole blocks, the tail with its padding, and the digest.
 use mathlib.Core.Path.{refl, ◌∙◌}
-use borrow.Author.Rules.{rules}
 use native.Mathlib.Omega.{arith}
 use Rattle.sha256.proofs.Blocks.{finished-is}
 use Rattle.sha256.proofs.finish.Goals as goal

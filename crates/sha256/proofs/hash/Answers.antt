@@ -1,7 +1,6 @@
 -- The hash from the initial hash value, with nothing before.
 use mathlib.Core.List.{List}
 use mathlib.Core.Path.{ap, ◌∙◌}
-use borrow.Author.Rules.{rules}
 use Rattle.sha256.specs.Sha256.{finished}
 use Rattle.sha256.proofs.Blocks.{hash-at-once}
 use Rattle.sha256.proofs.hash.Goals as goal

@@ -1,7 +1,7 @@
 -- After i turns the first i words are the sums.
-use Rattle.std.proofs.Common.{◌≡◌, ◌-◌, ◌≤◌, length, arith, length-set, rules}
-use Rattle.octets.proofs.Rule.{Filled, filled_more}
-use Rattle.sha256_rounds.proofs.Sums.{sum_at, added_is}
+use Rattle.std.proofs.Common.{◌≡◌, ◌-◌, ◌≤◌, length}
+use Rattle.octets.proofs.Rule.{Filled}
+use Rattle.sha256_rounds.proofs.Sums.{sum_at}
 use Rattle.sha256_rounds.proofs.add_words.Given as goal
 
 abbrev pub invariant-loop-i : goal.invariant-loop-i

@@ -1,4 +1,4 @@
-use Rattle.std.proofs.Common.{◌≡◌, ◌-◌, ◌≤◌, get_or, refl, ap, ◌∙◌, arith, rules}
+use Rattle.std.proofs.Common.{get_or, refl, arith}
 use Rattle.sha256_rounds.specs.Rounds.{rounds}
 use Rattle.sha256_rounds.proofs.Turns.{rounds-turn}
 use Rattle.sha256_rounds.proofs.all_rounds.Goals as goal
@@ -12,10 +12,3 @@ loop-t-preserved c =
     let l = c.loop-t in
     let a = c.args in
     (omega arith, rounds-turn (λ i. get_or a.w.now i 0) a.h a.k.now l.v _ l.t c.requires l.invariant.1 c.one_round-next.ensures)
-
-pub returns : goal.returns
-returns c =
-    let l = c.loop-t in
-    let a = c.args in
-    let all : l.t ≡ 64 = omega arith in
-    l.invariant.1 ∙ ap (rounds (λ i. get_or a.w.now i 0) a.h) all

@@ -1,7 +1,6 @@
 -- After t turns v holds the working variables after t rounds.
-use Rattle.std.proofs.Common.{◌≡◌, ◌-◌, ◌≤◌, get_or, refl, ap, ◌∙◌, arith, rules}
+use Rattle.std.proofs.Common.{◌≡◌, ◌-◌, ◌≤◌, get_or}
 use Rattle.sha256_rounds.specs.Rounds.{rounds}
-use Rattle.sha256_rounds.proofs.Turns.{rounds-turn}
 use Rattle.sha256_rounds.proofs.all_rounds.Given as goal
 
 abbrev pub invariant-loop-t : goal.invariant-loop-t

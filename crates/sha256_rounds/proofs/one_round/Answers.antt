@@ -1,5 +1,4 @@
 -- The eight variables, with what the four calls ensure put in.
-use Rattle.std.proofs.Common.{rules}
 use Rattle.sha256_rounds.proofs.Sums.{rounded}
 use Rattle.sha256_rounds.proofs.one_round.Goals as goal
 

@@ -1,8 +1,7 @@
 -- After i turns the first i words are parsed.
-use Rattle.std.proofs.Common.{◌≡◌, ◌-◌, ◌*◌, ◌≤◌, length, refl, arith, length-set, rules}
+use Rattle.std.proofs.Common.{◌≡◌, ◌-◌, ◌*◌, ◌≤◌, length}
 use Rattle.octets.specs.Octets.{number, part}
-use Rattle.octets.proofs.Rule.{Filled, filled_more}
-use Rattle.sha256_schedule.proofs.Parts.{words_are}
+use Rattle.octets.proofs.Rule.{Filled}
 use Rattle.sha256_schedule.proofs.parse.Given as goal
 
 abbrev pub invariant-loop-i : goal.invariant-loop-i

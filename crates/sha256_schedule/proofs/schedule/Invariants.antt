@@ -1,6 +1,6 @@
 -- After t turns the first t words of the schedule are there.
-use Rattle.std.proofs.Common.{◌≡◌, ◌-◌, ◌≤◌, length, refl, arith, length-set, rules}
-use Rattle.octets.proofs.Rule.{Filled, filled_more}
+use Rattle.std.proofs.Common.{◌≡◌, ◌-◌, ◌≤◌, length}
+use Rattle.octets.proofs.Rule.{Filled}
 use Rattle.sha256_schedule.specs.Schedule.{W}
 use Rattle.sha256_schedule.proofs.schedule.Given as goal
 

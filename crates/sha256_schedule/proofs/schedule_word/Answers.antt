@@ -1,5 +1,5 @@
 -- The two cases of the schedule's rule: a word of the block, and a word from those before it.
-use Rattle.std.proofs.Common.{◌-◌, ◌≤◌, arith, rules}
+use Rattle.std.proofs.Common.{◌-◌, ◌≤◌, arith}
 use Rattle.sha256_schedule.proofs.Latest.{schedule-first, schedule-next}
 use Rattle.sha256_schedule.proofs.schedule_word.Goals as goal
 

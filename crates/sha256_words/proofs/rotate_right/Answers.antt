@@ -1,5 +1,4 @@
 -- Two shifts whose parts do not meet.
-use borrow.Author.Rules.{rules}
 use native.Mathlib.Omega.{arith}
 use Rattle.sha256_words.proofs.Rotation.{rotation}
 use Rattle.sha256_words.proofs.rotate_right.Goals as goal

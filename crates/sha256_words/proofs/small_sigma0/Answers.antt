@@ -1,6 +1,0 @@
--- The two rotations are as the callee ensures.
-use borrow.Author.Rules.{rules}
-use Rattle.sha256_words.proofs.small_sigma0.Goals as goal
-
-pub returns : goal.returns
-returns c = cc
