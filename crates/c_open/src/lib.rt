@@ -1,5 +1,6 @@
 // RFC 9001 section 5 for C: a packet opened with a key record.
 #![tactic(auto)]
+
 ghost use Rattle.c_open.specs.Promises.{DwOpen};
 
 use c_key_record::{KeyRecord, load_keys};

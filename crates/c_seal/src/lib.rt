@@ -1,5 +1,6 @@
 // RFC 9001 section 5 for C: a packet sealed with a key record.
 #![tactic(auto)]
+
 ghost use Rattle.header_writing.specs.Written.{holding, absent};
 ghost use Rattle.seal_judging.specs.Judging.{sealing_answer};
 ghost use Rattle.c_forms.specs.Promises.{Answers};

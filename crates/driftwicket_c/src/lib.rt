@@ -2,6 +2,7 @@
 // To C a slice is a pointer and a length, and a reference a pointer alone (include/driftwicket.h). An archive exports the functions
 // of its own crate alone: each is one call to the room of its family.
 #![tactic(auto)]
+
 ghost use Rattle.header_writing.specs.Written.{holding, absent};
 ghost use Rattle.c_numbers.specs.Promises.{DwReadInteger, DwSmallestLength, DwShorten, DwRecover};
 ghost use Rattle.c_keys.specs.Promises.{DwInitialKeys, DwInstallKeys};
