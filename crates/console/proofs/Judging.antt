@@ -34,7 +34,3 @@ module _ (d : List ℕ) (at n : ℕ) where
   there h =
       let long : at + n - at ≡ n = omega arith in
       rw (le-leb (at + n) (length d) h, long)
-
--- ---- the bytes of a text that is another's
-pub decoded-as : {t u before after : List ℕ} {n : ℕ} → t ≡ u → Decoded t before after n → Decoded u before after n
-decoded-as {before = before} {after = after} {n = n} e d = subst (λ (x : List ℕ). Decoded x before after n) e d

@@ -5,9 +5,6 @@ use Rattle.console.proofs.Judged.{judged-answer, judged-untold}
 use Rattle.console_calls.proofs.Judging.{right-passed, right-stopped, right_end}
 use Rattle.console_calls.proofs.are_right.Goals as goal
 
-pub loop-i-init : goal.loop-i-init
-loop-i-init g c = (omega arith, refl)
-
 pub returns-in_err-is_asked : goal.returns-in_err-is_asked
 returns-in_err-is_asked g c =
     let a = c.args in

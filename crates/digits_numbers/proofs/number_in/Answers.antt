@@ -7,9 +7,6 @@ use Rattle.digits_numbers.specs.Numbers.{fitting}
 use Rattle.digits_numbers.proofs.Reading.{no_digit, nothing, all_digits}
 use Rattle.digits_numbers.proofs.number_in.Goals as goal
 
-pub digits-good-requires : goal.digits-good-requires
-digits-good-requires c = search rules
-
 pub returns-then-good-text : goal.returns-then-good-text
 returns-then-good-text c =
     let a = c.args in
@@ -19,12 +16,6 @@ pub returns-then-text-lt1 : goal.returns-then-text-lt1
 returns-then-text-lt1 c =
     let a = c.args in
     sym (nothing a.base a.text.now (omega arith))
-
-pub wide-requires : goal.wide-requires
-wide-requires c = search rules
-
-pub spell-requires : goal.spell-requires
-spell-requires c = search rules
 
 pub returns : goal.returns
 returns c =

@@ -9,9 +9,6 @@ use Rattle.digits_numbers.specs.declared.Number.TheVariants.{Value}
 use Rattle.digits_numbers.proofs.Reading.{grows, read-turn, read-ends, next_fits, next-wraps, fits, wraps}
 use Rattle.digits_numbers.proofs.spell.Goals as goal
 
-pub loop-i-init : goal.loop-i-init
-loop-i-init c = (search rules, search rules, refl)
-
 pub returns-then-digit-base : goal.returns-then-digit-base
 returns-then-digit-base c =
     let l = c.loop-i in
@@ -26,24 +23,6 @@ returns-then-digit-base c =
     let next : ℕ = l.number * a.base + value_of (get_or text l.i 0) in
     let large = grows a.base next (drop (l.i + 1) text) some in
     sym (wraps a.base text (omega (arith, wrapped, large, read-turn a.base l.number text l.i inside, l.invariant.2, is)))
-
-pub overflow_mul-number : goal.overflow_mul-number
-overflow_mul-number c =
-    let l = c.loop-i in
-    let a = c.args in
-    let some = c.requires in
-    let digit = c.value.ensures.1 in
-    let fit = next_fits a.base l.number c.wide-digit.result some (omega arith) c.if-digit-base.false in
-    omega (arith, fit)
-
-pub overflow_add-number : goal.overflow_add-number
-overflow_add-number c =
-    let l = c.loop-i in
-    let a = c.args in
-    let some = c.requires in
-    let digit = c.value.ensures.1 in
-    let fit = next_fits a.base l.number c.wide-digit.result some (omega arith) c.if-digit-base.false in
-    omega (arith, fit)
 
 pub loop-i-preserved : goal.loop-i-preserved
 loop-i-preserved c =

@@ -8,9 +8,6 @@ use Rattle.digits_reading.specs.Digits.{pairs}
 use Rattle.digits_reading.proofs.Pairs.{pairs-length, pairs-at, lay-begun}
 use Rattle.digits_reading.proofs.decode.Goals as goal
 
-pub loop-i-init : goal.loop-i-init
-loop-i-init c = (omega arith, refl, paste-zero c.args.buffer.now 0 (take c.least-count.result (pairs c.args.text.now)))
-
 pub loop-i-preserved : goal.loop-i-preserved
 loop-i-preserved c =
     let l = c.loop-i in

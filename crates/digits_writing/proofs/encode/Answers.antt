@@ -8,12 +8,6 @@ use Rattle.digits_writing.proofs.Hex.{hex-length, hex-at, lay-two}
 use Rattle.digits_reading.proofs.Pairs.{lay-begun}
 use Rattle.digits_writing.proofs.encode.Goals as goal
 
-pub digit-requires : goal.digit-requires
-digit-requires c = omega (arith, c.type_inv.bytes c.loop-i.i)
-
-pub bounds-buffer-i-in-loop-i : goal.bounds-buffer-i-in-loop-i
-bounds-buffer-i-in-loop-i c = simp length-set (omega arith)
-
 pub loop-i-preserved : goal.loop-i-preserved
 loop-i-preserved c =
     let l = c.loop-i in
@@ -29,20 +23,3 @@ loop-i-preserved c =
       simp length-set l.invariant.1,
       lay-two l.buffer a.buffer.now (take (2 * n) (hex s)) l.i _ _ (omega arith) (omega arith) l.invariant.2 high low,
     )
-
-pub returns : goal.returns
-returns c =
-    let l = c.loop-i in
-    let a = c.args in
-    let n = c.least-count in
-    let s = a.bytes.now in
-    let long : length (hex s) ≡ 2 * length s = hex-length s in
-    let all : length (take (2 * n.result) (hex s)) ≡ 2 * n.result = length-take-le (2 * n.result) (hex s) (omega arith) in
-    let fits : 2 * n.result ≤ length l.buffer = omega arith in
-    let end : 2 * l.i ≡ length (take (2 * n.result) (hex s)) = omega arith in record {
-      prefix_len = (fits, sym (length-take-le _ l.buffer fits));
-      encoded = record {
-        counted = ap (λ (k : ℕ). 2 * k) n.ensures.0;
-        holds = lay-begun l.buffer a.buffer.now (take (2 * n.result) (hex s)) (2 * l.i) end l.invariant.2;
-      };
-    }

@@ -19,9 +19,3 @@ loop-at-preserved c =
       | then-starts w ↦ (omega arith, omega arith, w.words-is ∙ ap (λ (n : ℕ). n + 1) l.invariant.2 ∙ sym (count-one _ _ l.at (sym s ∙ w.if-starts.true)))
       | else-starts w ↦ (omega arith, omega arith, w.words-is ∙ l.invariant.2 ∙ sym (count_none _ _ l.at (sym s ∙ w.if-starts.false)))
     ]
-
-pub returns : goal.returns
-returns c =
-    let l = c.loop-at in
-    let end : l.at ≡ length c.args.text.now = omega arith in
-    l.invariant.2 ∙ ap (words_up_to _ _) end

@@ -20,9 +20,6 @@ returns-then-a-i c =
     let a = c.args in
     sym (unequal-same a.a.now a.b.now (λ e. c.if-a-i.true (ap (λ (s : List ℕ). get_or s i 0) e)))
 
-pub loop-i-preserved : goal.loop-i-preserved
-loop-i-preserved c = (search rules, below_more _ _ c.loop-i.invariant.1 c.if-a-i.false)
-
 pub returns : goal.returns
 returns c =
     let l = c.loop-i in

@@ -11,9 +11,3 @@ pub loop-i-preserved : goal.loop-i-preserved
 loop-i-preserved c =
     let l = c.loop-i in
     (omega arith, omega arith, word_next _ _ l.i _ _ _ l.invariant.2 c.next_separator.ensures.2 c.past_separators-at-in-loop-i.ensures.2)
-
-pub returns : goal.returns
-returns c =
-    let l = c.loop-i in
-    let end : l.i ≡ c.args.index = omega arith in
-    (omega arith, l.invariant.2 ∙ ap (word_at _ _) end)

@@ -4,12 +4,6 @@ use lib.ListN.{length-set}
 use Rattle.terminal.proofs.Blanks.{zero_turn, zero-ends}
 use Rattle.terminal.proofs.lines.blanks_to_zeros.Goals as goal
 
-pub loop-i-init : goal.loop-i-init
-loop-i-init c = (omega arith, refl, refl)
-
-pub loop-i-smaller : goal.loop-i-smaller
-loop-i-smaller c = simp length-set (omega arith)
-
 pub loop-i-preserved : goal.loop-i-preserved
 loop-i-preserved c =
     let l = c.loop-i in
