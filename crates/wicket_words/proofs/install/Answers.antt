@@ -1,5 +1,4 @@
 -- The keys of the level and of the bytes that were decoded.
-use borrow.Author.Rules.{rules}
 use Rattle.wicket_words.proofs.Named.{secret-decoded, installed-as}
 use Rattle.wicket_words.proofs.install.Goals as goal
 

@@ -1,6 +1,5 @@
 -- The level and the secret of their words.
 use mathlib.Core.Path.{ap₂}
-use borrow.Author.Rules.{rules}
 use Rattle.wicket_words.specs.Named.{installed_by}
 use Rattle.wicket_words.proofs.Named.{made_as}
 use Rattle.wicket_words.proofs.installed_of.Goals as goal

@@ -1,6 +1,5 @@
 -- The second word has a colon in it, or is an ID.
 use mathlib.Core.Path.{sym, ◌∙◌}
-use borrow.Author.Rules.{rules}
 use Rattle.wicket_words.proofs.Named.{made_as, keys-installed, keys-initial}
 use Rattle.wicket_words.proofs.keys_of.Goals as goal
 

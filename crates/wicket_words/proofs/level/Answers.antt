@@ -1,6 +1,5 @@
 -- The two tests, in their order.
 use mathlib.Core.Path.{sym, ◌∙◌}
-use borrow.Author.Rules.{rules}
 use Rattle.octets.specs.Text.{ascii}
 use Rattle.wicket_words.specs.Named.{level_named}
 use Rattle.wicket_words.proofs.level.Goals as goal

@@ -2,7 +2,6 @@
 use Prim.Native.Nat.{ℕ}
 use mathlib.Core.List.{List}
 use mathlib.Core.Path.{sym, ap, ◌∙◌}
-use borrow.Author.Rules.{rules}
 use Rattle.octets.specs.Octets.{same}
 use Rattle.octets.specs.Text.{ascii}
 use Rattle.wicket_words.proofs.side.Goals as goal

@@ -1,7 +1,6 @@
 -- The number fits 32 bits, or not.
 use mathlib.Core.Path.{sym, ◌∙◌}
 use native.Mathlib.Omega.{arith}
-use borrow.Author.Rules.{rules}
 use Rattle.wicket_words.proofs.Named.{no-version, its-version}
 use Rattle.wicket_words.proofs.version.Goals as goal
 
