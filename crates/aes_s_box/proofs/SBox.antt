@@ -37,13 +37,13 @@ inverses-filled = filled inverse inverses tt
 abbrev pub box_at : ℕ → ℕ
 box_at b = spelled 8 (affine_bit (get_or inverses b 0))
 
-pub box-at : (b : ℕ) → b < 256 → box_at b ≡ s_box b
+pub box_at-is : (b : ℕ) → b < 256 → box_at b ≡ s_box b
 unfolding s_box
-box-at b h = ap (λ (i : ℕ). spelled 8 (affine_bit i)) (inverses-filled b h)
+box_at-is b h = ap (λ (i : ℕ). spelled 8 (affine_bit i)) (inverses-filled b h)
 
 -- a table of 256 entries that passes the test is the S-box
 pub boxed : (table : List ℕ) → length table ≡ 256 → T (each (fits box_at) 0 table) → Box table
-boxed table e t = record { rule = λ b h. filled box_at table t b (rw e h) ∙ box-at b h }
+boxed table e t = record { rule = λ b h. filled box_at table t b (rw e h) ∙ box_at-is b h }
 
 -- section 4.4: a byte times its inverse is 1, and 0 at 0
 products : List ℕ

@@ -8,7 +8,7 @@ use Rattle.octets.specs.Octets.{Bytes, bytes, number}
 use Rattle.octets.proofs.Numbers.{number_lt, bytes_back}
 use Rattle.octets.proofs.Rule.{each, fits, filled}
 use Rattle.aes_s_box.specs.Box.{s_box}
-use Rattle.aes_s_box.proofs.SBox.{box_at, box-at}
+use Rattle.aes_s_box.proofs.SBox.{box_at, box_at-is}
 use Rattle.aes_s_box.proofs.Bytes.{s_box-lt, times-lt}
 use Rattle.aes_word_table.specs.Table.{spread, entry, Mixing}
 
@@ -19,7 +19,7 @@ entry_at b = number (spread (box_at b))
 -- a table of 256 words that passes the test is the round's
 pub mixing : (table : List ℕ) → length table ≡ 256 → T (each (fits entry_at) 0 table) → Mixing table
 mixing table e t =
-    record { rule = λ b h. filled entry_at table t b (rw e h) ∙ ap (λ (s : ℕ). number (spread s)) (box-at b h) }
+    record { rule = λ b h. filled entry_at table t b (rw e h) ∙ ap (λ (s : ℕ). number (spread s)) (box_at-is b h) }
 
 -- ---- an entry's bytes
 spread-bytes : (b : ℕ) → b < 256 → Bytes (spread b)

@@ -38,7 +38,7 @@ pub fn seal(
     out: &mut [u8],
     report: &mut [u64; 1],
 ) -> u32
-    ensures { DwSeal keys.now any_acknowledged acknowledged (record { destination = destination.entry.now; source = source.now; token = holding token.now; payload = payload.now; packet_number = number; number_length = length }) report.old result report.new out.old out.new }
+    ensures { DwSeal keys.now any_acknowledged acknowledged (record { destination = destination.now; source = source.now; token = holding token.now; payload = payload.now; packet_number = number; number_length = length }) report.old result report.new out.old out.new }
 {
     let answer = seal::seal(
         load_keys(*keys),
@@ -67,7 +67,7 @@ pub fn seal_long(
     out: &mut [u8],
     report: &mut [u64; 1],
 ) -> u32
-    ensures { DwSeal keys.now any_acknowledged acknowledged (record { destination = destination.entry.now; source = source.now; token = absent; payload = payload.now; packet_number = number; number_length = length }) report.old result report.new out.old out.new }
+    ensures { DwSeal keys.now any_acknowledged acknowledged (record { destination = destination.now; source = source.now; token = absent; payload = payload.now; packet_number = number; number_length = length }) report.old result report.new out.old out.new }
 {
     let answer = seal::seal_long(
         load_keys(*keys),

@@ -103,7 +103,7 @@ pub extern "C" fn dw_seal(
     out: &mut [u8],
     report: &mut [u64; 1],
 ) -> u32
-    ensures { DwSeal keys.now any_acknowledged acknowledged (record { destination = destination.entry.now; source = source.now; token = holding token.now; payload = payload.now; packet_number = number; number_length = length }) report.old result report.new out.old out.new }
+    ensures { DwSeal keys.now any_acknowledged acknowledged (record { destination = destination.now; source = source.now; token = holding token.now; payload = payload.now; packet_number = number; number_length = length }) report.old result report.new out.old out.new }
 {
     c_seal::seal(
         keys,
@@ -134,7 +134,7 @@ pub extern "C" fn dw_seal_long(
     out: &mut [u8],
     report: &mut [u64; 1],
 ) -> u32
-    ensures { DwSeal keys.now any_acknowledged acknowledged (record { destination = destination.entry.now; source = source.now; token = absent; payload = payload.now; packet_number = number; number_length = length }) report.old result report.new out.old out.new }
+    ensures { DwSeal keys.now any_acknowledged acknowledged (record { destination = destination.now; source = source.now; token = absent; payload = payload.now; packet_number = number; number_length = length }) report.old result report.new out.old out.new }
 {
     c_seal::seal_long(
         keys,

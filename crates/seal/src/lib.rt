@@ -35,7 +35,7 @@ fn write_packet(
     buffer: &mut [u8],
 )
     requires { Writable (record { destination = destination.now; source = source.now; token = token_of field token.now; payload = payload.now; packet_number = number; number_length = count }) (length buffer.old) }
-    ensures { buffer.new ≡ begun (packet_of aes_gcm in_force (keys_of keys) (record { destination = destination.entry.now; source = source.now; token = token_of field token.now; payload = payload.now; packet_number = number; number_length = count })) buffer.old }
+    ensures { buffer.new ≡ begun (packet_of aes_gcm in_force (keys_of keys) (record { destination = destination.now; source = source.now; token = token_of field token.now; payload = payload.now; packet_number = number; number_length = count })) buffer.old }
 {
     let place = write_header(
         keys.version,
@@ -65,7 +65,7 @@ fn seal_packet(
     payload: &[u8],
     out: &mut [u8],
 ) -> Sealing
-    ensures { Seal (keys_of keys) (acknowledged_of acknowledged) (record { destination = destination.entry.now; source = source.now; token = token_of field token.now; payload = payload.now; packet_number = number.0; number_length = count }) out.old result out.new }
+    ensures { Seal (keys_of keys) (acknowledged_of acknowledged) (record { destination = destination.now; source = source.now; token = token_of field token.now; payload = payload.now; packet_number = number.0; number_length = count }) out.old result out.new }
 {
     let answer = judge(
         keys,
@@ -109,7 +109,7 @@ pub fn seal(
     payload: &[u8],
     out: &mut [u8],
 ) -> Sealing
-    ensures { Seal (keys_of keys) (acknowledged_of acknowledged) (record { destination = destination.entry.now; source = source.now; token = holding token.now; payload = payload.now; packet_number = number.0; number_length = count }) out.old result out.new }
+    ensures { Seal (keys_of keys) (acknowledged_of acknowledged) (record { destination = destination.now; source = source.now; token = holding token.now; payload = payload.now; packet_number = number.0; number_length = count }) out.old result out.new }
 {
     seal_packet(
         keys,
@@ -136,7 +136,7 @@ pub fn seal_long(
     payload: &[u8],
     out: &mut [u8],
 ) -> Sealing
-    ensures { Seal (keys_of keys) (acknowledged_of acknowledged) (record { destination = destination.entry.now; source = source.now; token = absent; payload = payload.now; packet_number = number.0; number_length = count }) out.old result out.new }
+    ensures { Seal (keys_of keys) (acknowledged_of acknowledged) (record { destination = destination.now; source = source.now; token = absent; payload = payload.now; packet_number = number.0; number_length = count }) out.old result out.new }
 {
     seal_packet(
         keys,

@@ -23,7 +23,7 @@ pub fn write_header(
     buffer: &mut [u8],
 ) -> usize
     requires { Writable (record { destination = destination.now; source = source.now; token = token_of field token.now; payload = payload.now; packet_number = number; number_length = count }) (length buffer.old) }
-    ensures { HeaderWritten version level (record { destination = destination.entry.now; source = source.now; token = token_of field token.now; payload = payload.now; packet_number = number; number_length = count }) buffer.old buffer.new result }
+    ensures { HeaderWritten version level (record { destination = destination.now; source = source.now; token = token_of field token.now; payload = payload.now; packet_number = number; number_length = count }) buffer.old buffer.new result }
 {
     let first = 0xc0 + versions::type_for(version, level) * 16 + (count - 1) as u8;
     let counted = count + payload.len() + TAG_LENGTH;

@@ -99,7 +99,7 @@ pub fn judge(
     payload: &[u8],
     room: usize,
 ) -> Sealing
-    ensures { sealing_answer result ≡ length_given (sealed aes_gcm in_force (keys_of keys) (acknowledged_of acknowledged) (record { destination = destination.entry.now; source = source.now; token = token_of field token.now; payload = payload.now; packet_number = number.0; number_length = count }) room) }
+    ensures { sealing_answer result ≡ length_given (sealed aes_gcm in_force (keys_of keys) (acknowledged_of acknowledged) (record { destination = destination.now; source = source.now; token = token_of field token.now; payload = payload.now; packet_number = number.0; number_length = count }) room) }
 {
     if !versions::is_known(keys.version) {
         return Sealing::Refused(refusal::VERSION);

@@ -1,10 +1,7 @@
 -- Before round n the state is that of rounds 1 to n - 1.
 use Prim.Native.Nat.{◌-◌, ◌≤◌}
-use mathlib.Core.Path.{◌≡◌, refl}
-use borrow.Author.Rules.{rules}
-use native.Mathlib.Omega.{arith}
+use mathlib.Core.Path.{◌≡◌}
 use Rattle.aes_byte_rounds.specs.Cipher.{rounds}
-use Rattle.aes_byte_rounds.proofs.Rounds.{rounds-turn, rounds-end}
 use Rattle.aes_byte_rounds.proofs.encrypt_with.Given as goal
 
 abbrev pub invariant-loop-round : goal.invariant-loop-round

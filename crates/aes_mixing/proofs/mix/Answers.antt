@@ -1,5 +1,4 @@
 -- {02} is x_times, and {03} is it and the byte.
-use borrow.Author.Rules.{rules}
 use Rattle.aes_mixing.specs.Mixing.{mixed}
 use Rattle.aes_mixing.proofs.Factors.{two, three}
 use Rattle.aes_mixing.proofs.mix.Goals as goal

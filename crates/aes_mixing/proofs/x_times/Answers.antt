@@ -1,6 +1,5 @@
 -- The definition, as it is written.
 use mathlib.Core.Path.{refl}
-use borrow.Author.Rules.{rules}
 use Rattle.aes_s_box.specs.Field.{x_times}
 use Rattle.aes_mixing.proofs.x_times.Goals as goal
 

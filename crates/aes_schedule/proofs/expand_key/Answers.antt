@@ -1,9 +1,8 @@
-use Prim.Native.Nat.{◌-◌, ◌*◌, ◌≤◌}
-use mathlib.Core.Path.{◌≡◌, ap, ◌∙◌}
+use mathlib.Core.Path.{ap, ◌∙◌}
 use borrow.Author.Rules.{rules}
 use native.Mathlib.Omega.{arith}
-use lib.ListN.{length, take}
-use Rattle.aes_schedule.specs.Expansion.{grown, expansion}
+use lib.ListN.{take}
+use Rattle.aes_schedule.specs.Expansion.{grown}
 use Rattle.aes_schedule.proofs.Growth.{schedule-start, schedule-turn, schedule-end}
 use Rattle.aes_schedule.proofs.expand_key.Goals as goal
 

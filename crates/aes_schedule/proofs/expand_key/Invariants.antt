@@ -1,11 +1,8 @@
 -- What is left to make from the words in the buffer so far is the expansion of the key.
 use Prim.Native.Nat.{◌-◌, ◌*◌, ◌≤◌}
-use mathlib.Core.Path.{◌≡◌, ap, ◌∙◌}
-use borrow.Author.Rules.{rules}
-use native.Mathlib.Omega.{arith}
+use mathlib.Core.Path.{◌≡◌}
 use lib.ListN.{length, take}
 use Rattle.aes_schedule.specs.Expansion.{grown, expansion}
-use Rattle.aes_schedule.proofs.Growth.{schedule-start, schedule-turn, schedule-end}
 use Rattle.aes_schedule.proofs.expand_key.Given as goal
 
 abbrev pub invariant-loop-i : goal.invariant-loop-i

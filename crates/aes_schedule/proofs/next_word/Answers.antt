@@ -1,7 +1,6 @@
 -- The sum of the words that the contracts give.
 use Prim.Native.Nat.{◌%◌}
 use mathlib.Core.Path.{ap, ap₂, ◌∙◌}
-use borrow.Author.Rules.{rules}
 use lib.Dec.{eqb}
 use Rattle.aes_state.specs.State.{sum}
 use Rattle.aes_schedule.specs.Expansion.{turned, next_word}

@@ -2,7 +2,6 @@
 use Prim.Native.Nat.{ℕ}
 use mathlib.Core.Path.{ap, ◌∙◌}
 use mathlib.Core.List.{List, [], ◌∷◌}
-use borrow.Author.Rules.{rules}
 use Rattle.octets.specs.Octets.{bytes}
 use Rattle.aes_state.specs.State.{sub_word}
 use Rattle.aes_word_columns.specs.Column.{byte_in}

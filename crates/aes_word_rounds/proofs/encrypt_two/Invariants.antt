@@ -1,12 +1,8 @@
 -- Before round n each of the two states is that of rounds 1 to n - 1.
 use Prim.Native.Nat.{◌-◌, ◌≤◌}
-use mathlib.Core.Path.{◌≡◌, refl}
-use borrow.Author.Rules.{rules}
-use native.Mathlib.Omega.{arith}
+use mathlib.Core.Path.{◌≡◌}
 use Rattle.aes_byte_rounds.specs.Cipher.{rounds}
-use Rattle.aes_byte_rounds.proofs.Rounds.{rounds-turn, rounds-end}
 use Rattle.aes_word_state.specs.Columns.{state_of}
-use Rattle.aes_word_rounds.proofs.Pairs.{pair_is}
 use Rattle.aes_word_rounds.proofs.encrypt_two.Given as goal
 
 abbrev pub invariant-loop-round : goal.invariant-loop-round

@@ -1,5 +1,4 @@
 -- Four columns, each as its contract says.
-use borrow.Author.Rules.{rules}
 use Rattle.octets.specs.Octets.{bytes}
 use Rattle.aes_word_state.proofs.States.{by-columns}
 use Rattle.aes_word_rounds.proofs.one_round.Goals as goal

@@ -1,5 +1,4 @@
 -- Four words of four bytes each.
-use borrow.Author.Rules.{rules}
 use Rattle.aes_word_state.proofs.States.{input-is}
 use Rattle.aes_word_state.proofs.input.Goals as goal
 

@@ -1,5 +1,4 @@
 -- Four words, written one after the other.
-use borrow.Author.Rules.{rules}
 use Rattle.octets.specs.Octets.{bytes}
 use Rattle.aes_word_state.proofs.States.{output-is}
 use Rattle.aes_word_state.proofs.output.Goals as goal

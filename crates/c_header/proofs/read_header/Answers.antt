@@ -1,6 +1,5 @@
 -- A refusal is told by its number alone, and what is given by its numbers.
 use mathlib.Core.Path.{sym, ap, ◌∙◌}
-use borrow.Author.Rules.{rules}
 use Rattle.header_reading.specs.Answers.{reading_answer}
 use Rattle.c_forms.proofs.Answering.{refusing, giving}
 use Rattle.c_header.proofs.read_header.Goals as goal

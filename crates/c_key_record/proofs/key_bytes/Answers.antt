@@ -1,6 +1,5 @@
 -- Each part goes on where the one before it ends, and the last fills the bytes.
 use mathlib.Core.Path.{refl}
-use borrow.Author.Rules.{rules}
 use native.Mathlib.Omega.{arith}
 use lib.ListN.{replicate, length-set}
 use Rattle.c_key_record.proofs.KeyRecords.{keys-laid}

@@ -4,7 +4,6 @@ use native.Mathlib.Omega.{arith}
 use lib.ListN.{replicate}
 use Rattle.octets.proofs.Buffers.{whole_part}
 use Rattle.c_key_record.proofs.KeyRecords.{keys-read}
-use borrow.Author.Rules.{rules}
 use Rattle.c_key_record.proofs.load_keys.Goals as goal
 
 pub returns : goal.returns

@@ -1,6 +1,5 @@
 -- The keys of the side that is meant, as they were made.
 use mathlib.Core.Path.{ap}
-use borrow.Author.Rules.{rules}
 use Rattle.keys.specs.InitialKeys.{initial_keys}
 use Rattle.c_keys.proofs.KeysAnswered.{initial-keys-numbered, keys-answered}
 use Rattle.c_keys.proofs.initial_keys.Goals as goal

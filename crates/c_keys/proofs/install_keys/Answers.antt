@@ -1,6 +1,5 @@
 -- The keys of the side that is meant, as they were installed.
 use mathlib.Core.Path.{ap}
-use borrow.Author.Rules.{rules}
 use Rattle.keys.specs.Sides.{Side}
 use Rattle.keys.specs.InstalledKeys.{installed}
 use Rattle.c_keys.proofs.KeysAnswered.{install-keys-numbered, keys-answered}

@@ -1,5 +1,4 @@
 -- The keys are written where no refusal stands beside them.
-use borrow.Author.Rules.{rules}
 use Rattle.c_keys.proofs.KeysAnswered.{keys-refused, keys-given}
 use Rattle.c_keys.proofs.report_keys.Goals as goal
 

@@ -1,6 +1,5 @@
 -- A refusal is told by its number alone, and what is given by its numbers.
 use mathlib.Core.Path.{sym, ap, ◌∙◌}
-use borrow.Author.Rules.{rules}
 use Rattle.numbers_shortening.specs.Shortening.{smallest_length}
 use Rattle.numbers_shortening.specs.Answers.{smallest_answer}
 use Rattle.c_forms.proofs.Answering.{refusing, giving}

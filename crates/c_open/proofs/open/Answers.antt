@@ -1,5 +1,4 @@
 -- A refusal is told by its number alone, and what was opened by its numbers.
-use borrow.Author.Rules.{rules}
 use Rattle.c_open.proofs.Answered.{open-refused, open-given}
 use Rattle.c_open.proofs.open.Goals as goal
 

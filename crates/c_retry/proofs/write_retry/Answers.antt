@@ -1,5 +1,4 @@
 -- A refusal is told by its number alone, and a packet by its length.
-use borrow.Author.Rules.{rules}
 use Rattle.c_retry.proofs.Answered.{retry-refused, retry-written}
 use Rattle.c_retry.proofs.write_retry.Goals as goal
 

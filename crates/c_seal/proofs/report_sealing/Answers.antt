@@ -1,6 +1,5 @@
 -- A refusal is told by its number alone, and a packet by its length.
 use mathlib.Core.Path.{sym, ap}
-use borrow.Author.Rules.{rules}
 use Rattle.seal_judging.specs.Judging.{sealing_answer}
 use Rattle.c_forms.proofs.Answering.{refusing, giving}
 use Rattle.c_seal.proofs.report_sealing.Goals as goal

@@ -1,5 +1,4 @@
 -- With the keys and the acknowledged number that C's arguments stand for.
-use borrow.Author.Rules.{rules}
 use Rattle.c_seal.proofs.Answered.{seal-told}
 use Rattle.c_seal.proofs.seal_long.Goals as goal
 

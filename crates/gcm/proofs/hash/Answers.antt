@@ -1,6 +1,5 @@
 -- The pieces one after the other, closed, then the ciphertext, closed, then the lengths.
 use native.Mathlib.Omega.{arith}
-use borrow.Author.Rules.{rules}
 use Rattle.gcm_hash.specs.Hash.{state}
 use Rattle.gcm_field.specs.Field.{num}
 use Rattle.gcm_table.specs.Table.{key_of}

@@ -1,5 +1,4 @@
 -- The cipher of sixteen zeros, as a number.
-use borrow.Author.Rules.{rules}
 use Rattle.gcm.proofs.Tagging.{key-is}
 use Rattle.gcm.proofs.hash_key.Goals as goal
 

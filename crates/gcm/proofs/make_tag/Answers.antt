@@ -1,7 +1,6 @@
 -- S under the mask.
 use Prim.Native.Nat.{ℕ}
 use mathlib.Core.Path.{ap, ◌∙◌}
-use borrow.Author.Rules.{rules}
 use Rattle.octets.specs.Octets.{bytes}
 use Rattle.gcm_counter.specs.Counter.{gctr, j0}
 use Rattle.gcm.specs.Gcm.{tag_by}

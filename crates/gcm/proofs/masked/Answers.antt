@@ -1,6 +1,5 @@
 -- One block of the key stream.
 use mathlib.Core.Path.{refl}
-use borrow.Author.Rules.{rules}
 use lib.ListN.{replicate}
 use Rattle.gcm_field.specs.Field.{num}
 use Rattle.gcm.proofs.Tagging.{masked-is}

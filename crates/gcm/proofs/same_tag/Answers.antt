@@ -1,11 +1,7 @@
-use Prim.Native.Nat.{◌-◌, ◌≤◌}
-use mathlib.Core.Path.{◌≡◌, refl, sym, ap, ◌∙◌}
-use mathlib.Core.Bool.{◌&&◌}
+use mathlib.Core.Path.{refl, sym, ap, ◌∙◌}
 use native.Mathlib.Omega.{arith}
 use borrow.Author.Rules.{rules}
-use lib.ListN.{length, drop}
-use lib.Dec.{eqb}
-use Rattle.octets.specs.Octets.{same}
+use lib.ListN.{length}
 use Rattle.octets.proofs.Same.{unequal-same}
 use Rattle.gcm.proofs.Comparing.{same_turn, same_end}
 use Rattle.gcm.proofs.same_tag.Goals as goal

@@ -1,14 +1,10 @@
 -- The differences so far and what is left to compare decide as the whole lists do.
 use Prim.Native.Nat.{◌-◌, ◌≤◌}
-use mathlib.Core.Path.{◌≡◌, refl, sym, ap, ◌∙◌}
+use mathlib.Core.Path.{◌≡◌}
 use mathlib.Core.Bool.{◌&&◌}
-use native.Mathlib.Omega.{arith}
-use borrow.Author.Rules.{rules}
 use lib.ListN.{length, drop}
 use lib.Dec.{eqb}
 use Rattle.octets.specs.Octets.{same}
-use Rattle.octets.proofs.Same.{unequal-same}
-use Rattle.gcm.proofs.Comparing.{same_turn, same_end}
 use Rattle.gcm.proofs.same_tag.Given as goal
 
 abbrev pub invariant-loop-i : goal.invariant-loop-i

@@ -1,7 +1,6 @@
 -- Two words fill the sixteen bytes.
 use mathlib.Core.Path.{refl}
 use native.Mathlib.Omega.{arith}
-use borrow.Author.Rules.{rules}
 use lib.ListN.{replicate}
 use Rattle.gcm.proofs.Tagging.{spelled_is}
 use Rattle.gcm.proofs.spelled.Goals as goal

@@ -1,4 +1,4 @@
-use Rattle.std.proofs.Common.{◌≡◌, ℕ, ◌+◌, ◌-◌, ◌≤◌, List, ◌++◌, length, take, drop, sym, refl, ap, ◌∙◌, ap₂, arith, rules}
+use Rattle.std.proofs.Common.{◌≡◌, ℕ, ◌+◌, ◌-◌, List, ◌++◌, length, take, drop, sym, refl, ap, ◌∙◌, ap₂, arith, rules}
 use Rattle.octets.specs.Octets.{bytes, xor, laid}
 use Rattle.octets.proofs.Parts.{part_length}
 use Rattle.gcm_counter.proofs.Counting.{first_block, block-after-next, masks-length, crypt-turn, crypt-end}

@@ -1,8 +1,6 @@
 -- What is left to lay over the buffer as it is gives what all of it gave at the start.
-use Rattle.std.proofs.Common.{◌≡◌, ℕ, ◌+◌, ◌-◌, ◌≤◌, List, ◌++◌, length, take, drop, sym, refl, ap, ◌∙◌, ap₂, arith, rules}
-use Rattle.octets.specs.Octets.{bytes, xor, laid}
-use Rattle.octets.proofs.Parts.{part_length}
-use Rattle.gcm_counter.proofs.Counting.{first_block, block-after-next, masks-length, crypt-turn, crypt-end}
+use Rattle.std.proofs.Common.{◌≡◌, ◌+◌, ◌-◌, ◌≤◌, ◌++◌, length, drop}
+use Rattle.octets.specs.Octets.{bytes, laid}
 use Rattle.gcm_counter.specs.Counter.{gctr, stream_by}
 use Rattle.gcm_counter.proofs.crypt.Given as goal
 

@@ -1,5 +1,4 @@
 -- The counter block of 1.
-use Rattle.std.proofs.Common.{rules}
 use Rattle.gcm_counter.specs.Counter.{j0}
 use Rattle.gcm_counter.proofs.j0.Goals as goal
 

@@ -1,5 +1,5 @@
 -- The blocks of two numbers, the second one above the first.
-use Rattle.std.proofs.Common.{◌∙◌, rules}
+use Rattle.std.proofs.Common.{◌∙◌}
 use Rattle.gcm_counter.proofs.Counting.{next-block, masks-are}
 use Rattle.gcm_counter.proofs.masks.Goals as goal
 

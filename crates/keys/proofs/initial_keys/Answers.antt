@@ -1,7 +1,5 @@
 -- Each refusal is one law, and so are the keys.
 use mathlib.Core.Path.{refl, sym, ap, ◌∙◌}
-use borrow.Author.Rules.{rules}
-use borrow.Author.Tests.{not-true, not-false}
 use native.Mathlib.Omega.{arith}
 use Rattle.versions.specs.Levels.{initial}
 use Rattle.keys_expansion.specs.Expansion.{keys_from}

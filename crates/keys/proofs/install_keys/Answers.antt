@@ -1,7 +1,5 @@
 -- Each refusal is one law, and so are the keys; a level that is installed fits its byte.
 use mathlib.Core.Path.{refl, sym, ◌∙◌}
-use borrow.Author.Rules.{rules}
-use borrow.Author.Tests.{not-true, not-false}
 use native.Mathlib.Omega.{arith}
 use Rattle.keys.specs.Answers.{side_of}
 use Rattle.keys.proofs.Installed.{installs-fits, install-unknown, install-level, install-given}

@@ -1,6 +1,5 @@
 -- Handshake for both, and of any other level 0-RTT alone, for the client.
 use mathlib.Core.Path.{sym}
-use borrow.Author.Rules.{rules}
 use Rattle.keys.specs.Answers.{side_of}
 use Rattle.keys.proofs.Installed.{installs-handshake, installs-client, installs-server}
 use Rattle.keys.proofs.installs.Goals as goal

@@ -1,5 +1,4 @@
 -- Each part by its label.
-use borrow.Author.Rules.{rules}
 use Rattle.keys_expansion.specs.Expansion.{keys_from}
 use Rattle.keys_expansion.proofs.Parts.{keys-same}
 use Rattle.keys_expansion.proofs.keys_from.Goals as goal

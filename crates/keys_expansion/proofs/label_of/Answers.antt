@@ -1,6 +1,5 @@
 -- Each label is the version's own.
 use mathlib.Core.Path.{refl}
-use borrow.Author.Rules.{rules}
 use native.Mathlib.Omega.{arith}
 use Rattle.octets.specs.Text.{ascii}
 use Rattle.versions.specs.Versions.{version1, draft2}

@@ -1,11 +1,9 @@
-use Prim.Native.Nat.{◌-◌, ◌/◌, ◌≤◌}
-use mathlib.Core.Path.{◌≡◌, refl, sym, ap, ◌∙◌}
+use mathlib.Core.Path.{refl, sym, ap, ◌∙◌}
 use native.Mathlib.Omega.{arith}
 use borrow.Author.Rules.{rules}
-use lib.ListN.{length, length-drop}
+use lib.ListN.{length-drop}
 use Rattle.octets.specs.Octets.{laid}
-use Rattle.measured.specs.Measured.{enciphered}
-use Rattle.measured.proofs.Blocks.{onward, blocks_start, block_read, blocks-turn, blocks_end}
+use Rattle.measured.proofs.Blocks.{blocks_start, block_read, blocks-turn, blocks_end}
 use Rattle.measured.proofs.dw_measure_blocks.Goals as goal
 
 pub loop-buffer-init : goal.loop-buffer-init

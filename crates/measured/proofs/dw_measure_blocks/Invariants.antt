@@ -1,12 +1,9 @@
 -- The blocks that are left, enciphered behind what is done, give what all of them gave at the start.
 use Prim.Native.Nat.{◌-◌, ◌/◌, ◌≤◌}
-use mathlib.Core.Path.{◌≡◌, refl, sym, ap, ◌∙◌}
-use native.Mathlib.Omega.{arith}
-use borrow.Author.Rules.{rules}
-use lib.ListN.{length, length-drop}
-use Rattle.octets.specs.Octets.{laid}
+use mathlib.Core.Path.{◌≡◌}
+use lib.ListN.{length}
 use Rattle.measured.specs.Measured.{enciphered}
-use Rattle.measured.proofs.Blocks.{onward, blocks_start, block_read, blocks-turn, blocks_end}
+use Rattle.measured.proofs.Blocks.{onward}
 use Rattle.measured.proofs.dw_measure_blocks.Given as goal
 
 abbrev pub invariant-loop-buffer : goal.invariant-loop-buffer

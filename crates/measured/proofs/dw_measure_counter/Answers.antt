@@ -1,5 +1,4 @@
 -- A refusal, and what is written.
-use borrow.Author.Rules.{rules}
 use native.Mathlib.Omega.{arith}
 use Rattle.measured.proofs.Sealing.{no-room-to-stream, streamed}
 use Rattle.measured.proofs.dw_measure_counter.Goals as goal

@@ -1,5 +1,4 @@
 -- Each refusal is one law, and so is what is written.
-use borrow.Author.Rules.{rules}
 use native.Mathlib.Omega.{arith}
 use Rattle.measured.proofs.Sealing.{wide-associated, wide-text, no_room, sealed}
 use Rattle.measured.proofs.dw_measure_gcm.Goals as goal

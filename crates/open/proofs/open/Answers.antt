@@ -1,6 +1,5 @@
 -- What is found is refused, or decrypted.
 use mathlib.Core.Path.{subst}
-use borrow.Author.Rules.{rules}
 use lib.ListN.{length}
 use Rattle.protection.specs.KeyRecord.{keys_of}
 use Rattle.open_judging.specs.Found.{Finds}

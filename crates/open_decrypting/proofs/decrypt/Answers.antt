@@ -1,6 +1,4 @@
 -- The tag is compared; then the packet is written and the expected number moves.
-use borrow.Author.Rules.{rules}
-use borrow.Author.Tests.{not-true, not-false}
 use Rattle.protection.specs.KeyRecord.{keys_of}
 use Rattle.open_decrypting.proofs.Answers.{tag-refused, decrypts}
 use Rattle.open_decrypting.proofs.decrypt.Goals as goal

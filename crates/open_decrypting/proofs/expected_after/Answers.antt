@@ -1,5 +1,4 @@
 -- The larger of the two, by the test.
-use borrow.Author.Rules.{rules}
 use native.Mathlib.Omega.{arith}
 use Rattle.open_decrypting.proofs.expected_after.Goals as goal
 

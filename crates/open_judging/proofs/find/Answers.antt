@@ -1,7 +1,5 @@
 -- Each refusal is one law, and so is what is found.
 use mathlib.Core.Path.{sym, ap, ◌∙◌}
-use borrow.Author.Rules.{rules}
-use borrow.Author.Tests.{not-true, not-false}
 use native.Mathlib.Omega.{arith}
 use Rattle.header_forms.specs.Rules.{in_force}
 use Rattle.header_forms.specs.Forms.{long_form}

@@ -1,6 +1,5 @@
 -- Each refusal is one law, and so is what is found.
 use mathlib.Core.Path.{sym, ap, ◌∙◌}
-use borrow.Author.Rules.{rules}
 use Rattle.numbers_recovery.specs.Answers.{recovered_answer}
 use Rattle.header_forms.specs.Answers.{form_of}
 use Rattle.protection.specs.KeyRecord.{keys_of}

@@ -1,5 +1,4 @@
 -- The tag of the pieces is the tag of the plain header and the ciphertext.
-use borrow.Author.Rules.{rules}
 use native.Mathlib.Omega.{arith}
 use lib.ListN.{replicate, length-take, length-drop}
 use Rattle.gcm_field.specs.Field.{num}

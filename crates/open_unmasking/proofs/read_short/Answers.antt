@@ -1,5 +1,4 @@
 -- What is read of bytes spells them.
-use borrow.Author.Rules.{rules}
 use Rattle.open_unmasking.proofs.Masking.{spells}
 use Rattle.open_unmasking.proofs.read_short.Goals as goal
 

@@ -1,5 +1,4 @@
 -- First byte, middle, number and payload, each behind the other.
-use borrow.Author.Rules.{rules}
 use Rattle.open_writing.proofs.Pieces.{writes}
 use Rattle.open_writing.proofs.write_opened.Goals as goal
 

@@ -1,6 +1,5 @@
 -- The cipher of the sample under the expanded key.
 use mathlib.Core.Path.{ap₂, ◌∙◌}
-use borrow.Author.Rules.{rules}
 use Rattle.aes_byte_rounds.specs.Cipher.{encrypted}
 use Rattle.protection.proofs.mask_of.Goals as goal
 

@@ -1,7 +1,6 @@
 -- Sixteen bytes fill the buffer.
 use Prim.Native.Nat.{◌+◌, ◌-◌}
 use mathlib.Core.Path.{refl, ◌∙◌}
-use borrow.Author.Rules.{rules}
 use native.Mathlib.Omega.{arith}
 use lib.ListN.{replicate}
 use Rattle.protection.specs.Protection.{sample_of}

@@ -1,8 +1,6 @@
 -- The long header, the token behind it, and the tag behind the token, each within the datagram.
 use Prim.Native.Nat.{◌+◌}
 use mathlib.Core.Path.{sym, ap, ap₂, ◌∙◌}
-use borrow.Author.Rules.{rules}
-use borrow.Author.Tests.{not-true, not-false}
 use native.Mathlib.Omega.{arith}
 use lib.Seq.{length-take-le}
 use Rattle.header_fields.specs.Answers.{found_answer}

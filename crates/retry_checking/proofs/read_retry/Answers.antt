@@ -1,6 +1,5 @@
 -- The form is judged first.
 use mathlib.Core.Path.{sym, ap, ◌∙◌}
-use borrow.Author.Rules.{rules}
 use Rattle.header_forms.specs.Answers.{formed_answer}
 use Rattle.octets.proofs.Outcome.{refused-first, given-first}
 use Rattle.retry_checking.specs.Retry.{retry_header}

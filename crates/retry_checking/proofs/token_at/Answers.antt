@@ -1,6 +1,5 @@
 -- The tag is whole before the token is judged.
 use mathlib.Core.Path.{sym}
-use borrow.Author.Rules.{rules}
 use native.Mathlib.Omega.{arith}
 use Rattle.retry_checking.proofs.Refusals.{token-no-tag, token-none, token-found}
 use Rattle.retry_checking.proofs.token_at.Goals as goal

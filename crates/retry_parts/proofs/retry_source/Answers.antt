@@ -1,6 +1,5 @@
 -- The place was found within the datagram.
 use mathlib.Core.Path.{sym, ap, ◌∙◌}
-use borrow.Author.Rules.{rules}
 use native.Mathlib.Omega.{arith}
 use Rattle.header_fields.proofs.Fields.{handed-none, handed-part}
 use Rattle.retry_checking.specs.Answers.{checking_answer}

@@ -1,5 +1,4 @@
 -- The pseudo-packet in three pieces, under the version's key and nonce.
-use borrow.Author.Rules.{rules}
 use Rattle.retry_tag.proofs.Tags.{tag-made}
 use Rattle.retry_tag.proofs.tag_of.Goals as goal
 

@@ -1,7 +1,6 @@
 -- The long header, the token and the tag, each where the one before it ends.
 use Prim.Native.Nat.{◌+◌}
 use mathlib.Core.Path.{sym}
-use borrow.Author.Rules.{rules}
 use native.Mathlib.Omega.{arith}
 use lib.ListN.{length}
 use lib.Seq.{length-take-le}

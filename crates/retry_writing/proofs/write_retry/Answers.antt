@@ -1,7 +1,5 @@
 -- Each refusal is one law, and so is the packet.
 use mathlib.Core.Path.{sym, ◌∙◌}
-use borrow.Author.Rules.{rules}
-use borrow.Author.Tests.{not-true, not-false}
 use native.Mathlib.Omega.{arith}
 use Rattle.retry_writing.proofs.Refusals.{write-unknown, write-long-original, write-long-destination, write-long-source, write-no-token, write-large, write-no-room, write-given}
 use Rattle.retry_writing.proofs.Promises.{write-refused, write-made}

@@ -1,5 +1,4 @@
 -- What is judged is refused, or can be written and is.
-use borrow.Author.Rules.{rules}
 use Rattle.seal.proofs.Answers.{refuse, writable, written}
 use Rattle.seal.proofs.seal_packet.Goals as goal
 

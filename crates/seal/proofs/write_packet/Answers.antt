@@ -1,5 +1,4 @@
 -- The plain header, and then the packet protected behind it and over it.
-use borrow.Author.Rules.{rules}
 use Rattle.header_forms.specs.Rules.{in_force}
 use Rattle.header_writing.specs.Written.{Plain, first_byte, fields}
 use Rattle.header_writing.specs.Answers.{token_of}

@@ -1,7 +1,6 @@
 -- The header is all of the associated data.
 use Prim.Native.Nat.{ℕ, ◌-◌}
 use mathlib.Core.Path.{sym, ap, ◌∙◌}
-use borrow.Author.Rules.{rules}
 use native.Mathlib.Omega.{arith}
 use lib.ListN.{take, length-take, length-drop}
 use lib.Seq.{length-take-le}

@@ -1,5 +1,4 @@
 -- The ciphertext, and behind it the tag.
-use borrow.Author.Rules.{rules}
 use native.Mathlib.Omega.{arith}
 use Rattle.seal_body.proofs.Bodies.{body-laid}
 use Rattle.seal_body.proofs.write_body.Goals as goal

@@ -1,7 +1,6 @@
 -- The fields before the number, and the number's low bytes behind them.
 use Prim.Native.Nat.{ℕ, ◌≤◌}
 use mathlib.Core.Path.{sym, subst}
-use borrow.Author.Rules.{rules}
 use native.Mathlib.Omega.{arith}
 use Rattle.header_writing.specs.Written.{first_byte}
 use Rattle.versions.proofs.Versions.{type-fits}

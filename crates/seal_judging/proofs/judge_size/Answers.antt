@@ -1,6 +1,5 @@
 -- A part over the limit puts the whole over it; else the size itself is judged.
 use mathlib.Core.Path.{ap, ◌∙◌}
-use borrow.Author.Rules.{rules}
 use native.Mathlib.Omega.{arith}
 use Rattle.octets.specs.Outcome.{given}
 use Rattle.seal_judging.proofs.Sizes.{over-limit, over-room, within, held_below}

@@ -1,6 +1,5 @@
 -- Each part is at most the limit, so no sum leaves a word.
 use Prim.Native.Nat.{◌+◌}
-use borrow.Author.Rules.{rules}
 use native.Mathlib.Omega.{arith}
 use Rattle.header_writing.proofs.Forms.{length-few}
 use Rattle.seal_judging.proofs.Sizes.{held-nearly}

@@ -2,7 +2,6 @@
 use mathlib.Core.Path.{ap, ◌∙◌}
 use mathlib.Core.List.{List}
 use Prim.Native.Nat.{ℕ, ◌+◌}
-use borrow.Author.Rules.{rules}
 use lib.ListN.{take}
 use Rattle.octets.specs.Octets.{laid}
 use Rattle.header_forms.specs.Answers.{form_of}

@@ -1,5 +1,4 @@
 -- A bit is 0 or 1, so the products fit.
-use borrow.Author.Rules.{rules}
 use Prim.Native.Nat.{◌^◌}
 use native.Mathlib.Omega.{arith}
 use Rattle.measured.proofs.ByBits.{digit-times}

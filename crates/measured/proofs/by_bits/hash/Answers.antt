@@ -1,12 +1,10 @@
-use Prim.Native.Nat.{ℕ, ◌-◌, ◌≤◌}
-use mathlib.Core.Path.{◌≡◌, sym, ap, ◌∙◌}
+use Prim.Native.Nat.{ℕ}
+use mathlib.Core.Path.{sym, ap, ◌∙◌}
 use native.Mathlib.Omega.{arith}
 use borrow.Author.Rules.{rules}
 use lib.Bits.{bit_xor}
-use lib.ListN.{length}
 use Rattle.gcm_field.specs.Field.{◌•◌, num}
-use Rattle.gcm_hash.specs.Hash.{ghash}
-use Rattle.measured.proofs.ByBits.{on_from, hash-start, hash-turn, hash-end}
+use Rattle.measured.proofs.ByBits.{hash-start, hash-turn, hash-end}
 use Rattle.measured.proofs.by_bits.hash.Goals as goal
 
 pub loop-at-init : goal.loop-at-init

@@ -1,13 +1,10 @@
 -- The blocks that are left, chained on from Y as it is, give what all of them give from 0.
-use Prim.Native.Nat.{ℕ, ◌-◌, ◌≤◌}
-use mathlib.Core.Path.{◌≡◌, sym, ap, ◌∙◌}
-use native.Mathlib.Omega.{arith}
-use borrow.Author.Rules.{rules}
-use lib.Bits.{bit_xor}
+use Prim.Native.Nat.{◌-◌, ◌≤◌}
+use mathlib.Core.Path.{◌≡◌}
 use lib.ListN.{length}
-use Rattle.gcm_field.specs.Field.{◌•◌, num}
+use Rattle.gcm_field.specs.Field.{num}
 use Rattle.gcm_hash.specs.Hash.{ghash}
-use Rattle.measured.proofs.ByBits.{on_from, hash-start, hash-turn, hash-end}
+use Rattle.measured.proofs.ByBits.{on_from}
 use Rattle.measured.proofs.by_bits.hash.Given as goal
 
 abbrev pub invariant-loop-at : goal.invariant-loop-at

@@ -1,11 +1,7 @@
 -- The steps for the bits that are left, from Z and V as they are, give what all 64 gave at the start.
-use Prim.Native.Nat.{ℕ, ◌≤◌, ◌<◌}
-use mathlib.Core.Path.{◌≡◌, refl, ap, ◌∙◌}
-use native.Mathlib.Omega.{arith}
-use borrow.Author.Rules.{rules}
-use lib.Bits.{bit_xor}
+use Prim.Native.Nat.{◌≤◌}
+use mathlib.Core.Path.{◌≡◌}
 use Rattle.gcm_field.specs.Field.{steps, num, nexts}
-use Rattle.measured.proofs.ByBits.{steps-turn, nexts-turn}
 use Rattle.measured.proofs.by_bits.through.Given as goal
 
 abbrev pub invariant-loop-n : goal.invariant-loop-n

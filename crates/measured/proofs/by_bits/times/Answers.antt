@@ -2,7 +2,6 @@
 use mathlib.Core.Path.{ap₂, ◌∙◌}
 use Prim.Native.Nat.{ℕ}
 use native.Mathlib.Omega.{arith}
-use borrow.Author.Rules.{rules}
 use Rattle.gcm_field.specs.Field.{steps, num}
 use Rattle.measured.proofs.ByBits.{both_words}
 use Rattle.measured.proofs.by_bits.times.Goals as goal

@@ -1,7 +1,0 @@
--- The bytes as they stand: each is where the definition has it.
-use mathlib.Core.Path.{refl}
-use borrow.Author.Rules.{rules}
-use Rattle.aes_shifting.proofs.shift_rows.Goals as goal
-
-pub returns : goal.returns
-returns c = refl
