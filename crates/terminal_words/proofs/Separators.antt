@@ -6,11 +6,9 @@ use mathlib.Core.Path.{◌≡◌, sym, ap, ◌∙◌}
 use native.Mathlib.Numerals.{add-one}
 use borrow.Author.Tests.{lt-ltb, le-ltb, eq-eqb, ne_eqb}
 use lib.Dec.{eqb}
-use native.Mathlib.Omega.{arith}
-use lib.ListN.{length, get_or, take, drop, drop_of_length-le}
+use lib.ListN.{length, get_or, drop, drop_of_length-le}
 use lib.Seq.{drop-cons}
-use Rattle.octets.specs.Octets.{part}
-use Rattle.terminal_words.specs.Words.{until, is, end_at, past_at, word_at, word_of, starts_at, words_up_to}
+use Rattle.terminal_words.specs.Words.{until, end_at, past_at, word_at, starts_at, words_up_to}
 
 -- ---- what stands before the first character that a test finds
 module _ (test : ℕ → Bool) (t : List ℕ) (i : ℕ) where

@@ -1,4 +1,4 @@
-use mathlib.Core.Path.{refl, sym, ◌∙◌}
+use mathlib.Core.Path.{sym, ◌∙◌}
 use native.Mathlib.Omega.{arith}
 use Rattle.console_calls.proofs.Judging.{usage-found, usage-passed, usage-none}
 use Rattle.console_calls.proofs.usage_of.Goals as goal

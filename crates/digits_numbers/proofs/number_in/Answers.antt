@@ -2,7 +2,6 @@
 use Prim.Native.Nat.{ℕ}
 use mathlib.Core.Path.{sym, ap, ◌∙◌}
 use native.Mathlib.Omega.{arith}
-use borrow.Author.Rules.{rules}
 use Rattle.digits_numbers.specs.Numbers.{fitting}
 use Rattle.digits_numbers.proofs.Reading.{no_digit, nothing, all_digits}
 use Rattle.digits_numbers.proofs.number_in.Goals as goal

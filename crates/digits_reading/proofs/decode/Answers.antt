@@ -1,8 +1,8 @@
 use Prim.Native.Nat.{ℕ, ◌+◌, ◌*◌, ◌/◌, ◌%◌, min, ◌≤◌}
-use mathlib.Core.Path.{ap₂, ◌≡◌, refl, sym, ap, ◌∙◌}
+use mathlib.Core.Path.{ap₂, ◌≡◌, sym, ap, ◌∙◌}
 use native.Mathlib.Omega.{arith}
 use lib.ListN.{get_or, set, length-set, length, take}
-use lib.Seq.{length-take-le, get_or-take, paste-zero}
+use lib.Seq.{length-take-le, get_or-take}
 use Rattle.octets.proofs.Buffers.{lay-turn}
 use Rattle.digits_reading.specs.Digits.{pairs}
 use Rattle.digits_reading.proofs.Pairs.{pairs-length, pairs-at, lay-begun}

@@ -1,7 +1,6 @@
 -- Below 10 the digits, from there on the letters.
 use mathlib.Core.Path.{sym}
 use native.Mathlib.Omega.{arith}
-use borrow.Author.Rules.{rules}
 use Rattle.digits_writing.proofs.Hex.{low_digit, high_digit}
 use Rattle.digits_writing.proofs.digit.Goals as goal
 

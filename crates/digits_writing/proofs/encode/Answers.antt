@@ -1,11 +1,10 @@
-use Prim.Native.Nat.{ℕ, ◌+◌, ◌*◌, ◌≤◌}
-use mathlib.Core.Path.{◌≡◌, sym, ap, ◌∙◌}
+use Prim.Native.Nat.{◌+◌, ◌*◌}
+use mathlib.Core.Path.{◌≡◌, sym, ◌∙◌}
 use native.Mathlib.Omega.{arith}
 use lib.ListN.{length-set, length, take}
 use lib.Seq.{length-take-le, get_or-take}
 use Rattle.digits_writing.specs.Hex.{hex}
 use Rattle.digits_writing.proofs.Hex.{hex-length, hex-at, lay-two}
-use Rattle.digits_reading.proofs.Pairs.{lay-begun}
 use Rattle.digits_writing.proofs.encode.Goals as goal
 
 pub loop-i-preserved : goal.loop-i-preserved

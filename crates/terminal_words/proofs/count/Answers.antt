@@ -1,7 +1,6 @@
 use Prim.Native.Nat.{ℕ, ◌+◌}
-use mathlib.Core.Path.{◌≡◌, refl, sym, ap, ◌∙◌}
+use mathlib.Core.Path.{refl, sym, ap, ◌∙◌}
 use native.Mathlib.Omega.{arith}
-use lib.ListN.{length}
 use Rattle.terminal_words.specs.Words.{words_up_to}
 use Rattle.terminal_words.proofs.Separators.{count-one, count_none}
 use Rattle.terminal_words.proofs.count.Goals as goal

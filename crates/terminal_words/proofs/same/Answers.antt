@@ -2,8 +2,6 @@ use Prim.Native.Nat.{ℕ, ◌≤◌}
 use mathlib.Core.List.{List}
 use mathlib.Core.Path.{sym, ap}
 use native.Mathlib.Omega.{arith}
-use borrow.Author.Count.{below_more}
-use borrow.Author.Rules.{rules}
 use lib.ListN.{length, get_or}
 use lib.Seq.{ext_get_or}
 use Rattle.octets.proofs.Same.{equal-same, unequal-same}

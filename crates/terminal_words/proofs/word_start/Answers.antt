@@ -1,6 +1,4 @@
-use mathlib.Core.Path.{◌≡◌, ap, ◌∙◌}
 use native.Mathlib.Omega.{arith}
-use Rattle.terminal_words.specs.Words.{word_at}
 use Rattle.terminal_words.proofs.Separators.{word_first, word_next}
 use Rattle.terminal_words.proofs.word_start.Goals as goal
 
