@@ -6,9 +6,11 @@ use mathlib.Core.Path.{◌≡◌, sym, ap, ◌∙◌}
 use native.Mathlib.Numerals.{add-one}
 use borrow.Author.Tests.{lt-ltb, le-ltb, eq-eqb, ne_eqb}
 use lib.Dec.{eqb}
-use lib.ListN.{length, get_or, drop, drop_of_length-le}
+use native.Mathlib.Omega.{arith}
+use lib.ListN.{length, get_or, take, drop, drop_of_length-le}
 use lib.Seq.{drop-cons}
-use Rattle.terminal_words.specs.Words.{until, end_at, past_at, word_at, starts_at, words_up_to}
+use Rattle.octets.specs.Octets.{part}
+use Rattle.terminal_words.specs.Words.{until, is, end_at, past_at, word_at, word_of, starts_at, words_up_to}
 
 -- ---- what stands before the first character that a test finds
 module _ (test : ℕ → Bool) (t : List ℕ) (i : ℕ) where
@@ -59,3 +61,9 @@ word_first s t p e = e
 pub word_next : (s : ℕ) (t : List ℕ) (i a e p : ℕ) → a ≡ word_at s t i → e ≡ end_at s t a → p ≡ past_at s t e → p ≡ word_at s t (i + 1)
 unfolding word_at
 word_next s t i a e p ea ee ep = ep ∙ ap (past_at s t) (ee ∙ ap (end_at s t) ea) ∙ sym (ap (word_at s t) (add-one i))
+
+-- the word of an index, from its start to the separator behind it
+pub word-part : (s : ℕ) (t : List ℕ) (i a e : ℕ) → a ≡ word_at s t i → e ≡ end_at s t a → part t a (e - a) ≡ word_of s t i
+word-part s t i a e ea ee =
+    let long : e - a ≡ until (is s) (drop a t) = omega arith in
+    ap (λ (n : ℕ). take n (drop a t)) long ∙ ap (λ (k : ℕ). part t k (until (is s) (drop k t))) ea
