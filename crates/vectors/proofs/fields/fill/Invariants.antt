@@ -1,5 +1,5 @@
 -- The bytes written are no more than the buffer has, and its length stays.
-use Rattle.std.proofs.Common.{◌≡◌, ◌-◌, ◌≤◌, length, sym, refl, arith, length-set, length-take-le, rules}
+use Rattle.std.proofs.Common.{◌≡◌, ◌-◌, ◌≤◌, length}
 use Rattle.vectors.proofs.fields.fill.Given as goal
 
 abbrev pub invariant-loop-i : goal.invariant-loop-i

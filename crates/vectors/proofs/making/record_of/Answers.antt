@@ -1,5 +1,5 @@
 -- The second word has a colon in it, or is an ID.
-use Rattle.std.proofs.Common.{sym, ◌∙◌, rules}
+use Rattle.std.proofs.Common.{sym, ◌∙◌}
 use Rattle.wicket_words.proofs.Named.{secret-decoded}
 use Rattle.vectors.proofs.Named.{record-of-id, record-of-secret}
 use Rattle.vectors.proofs.making.record_of.Goals as goal
