@@ -118,5 +118,6 @@ fn run_all<R: Read + Drop>(
 pub fn run(rt: &(impl Input + Print)) -> io::Result<()> {
     let mut chunk = [0u8; 4096];
     let mut text = [0u8; 65536];
-    run_all(rt, rt.reader(), &mut chunk, &mut text)
+    let mut input = rt.reader();
+    run_all(rt, &mut input, &mut chunk, &mut text)
 }

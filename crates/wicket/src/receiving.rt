@@ -177,7 +177,7 @@ pub fn receive(rt: &(impl Files + Input + Print), line: &[u8]) -> io::Result<()>
         return answers::refused(rt, made.refused);
     }
     let keys = made.keys;
-    let Some(file) = files::open(rt, word(line, 5, END))? else {
+    let Some(mut file) = files::open(rt, word(line, 5, END))? else {
         return Ok(());
     };
     let mut chunk = [0u8; 4096];
@@ -187,7 +187,7 @@ pub fn receive(rt: &(impl Files + Input + Print), line: &[u8]) -> io::Result<()>
         rt,
         keys,
         fields::number(line, 4),
-        file,
+        &mut file,
         &mut chunk,
         &mut text,
     )

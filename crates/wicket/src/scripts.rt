@@ -53,12 +53,12 @@ fn run_all<R: Read + Drop>(
 
 // wicket script FILE
 fn script(rt: &(impl Files + Input + Print), path: &[u8], manual: &[u8]) -> io::Result<()> {
-    let Some(file) = files::open(rt, path)? else {
+    let Some(mut file) = files::open(rt, path)? else {
         return Ok(());
     };
     let mut chunk = [0u8; 4096];
     let mut text = [0u8; 65536];
-    run_all(rt, file, &mut chunk, &mut text, manual)
+    run_all(rt, &mut file, &mut chunk, &mut text, manual)
 }
 
 // A call that is a script, or any other command.
