@@ -1,4 +1,3 @@
 pub mod Answers
 pub mod Fields
 pub mod Files
-pub mod Judging

@@ -2,7 +2,7 @@
 ghost use Rattle.std.specs.Prelude.{◌≡◌};
 ghost use Rattle.console.specs.Answers.{inside};
 
-use std::io;
+use terminal::Page;
 use terminal_words::word;
 
 // The width of a row's label.
@@ -29,80 +29,75 @@ the acknowledged number isn't below the number, or no length covers the gap\n";
 const LEVELS: [u8; 24] = *b"initial\n0-rtt\nhandshake\n";
 
 // A refusal, as a line.
-pub fn refused(rt: &impl Print, number: u8) -> io::Result<()> {
-    terminal::say(rt, b"refused ")?;
-    terminal::say_number(rt, number as u64)?;
-    terminal::say(rt, b": ")?;
-    terminal::say(rt, word(&WORDS, number as usize, b'\n'))?;
-    terminal::say(rt, b"\n")
+pub fn refused(page: &mut Page, number: u8) {
+    terminal::say(page, b"refused ");
+    terminal::say_number(page, number as u64);
+    terminal::say(page, b": ");
+    terminal::say(page, word(&WORDS, number as usize, b'\n'));
+    terminal::say(page, b"\n");
 }
 
 // A row of bytes.
-pub fn bytes(rt: &impl Print, label: &[u8], value: &[u8]) -> io::Result<()> {
-    terminal::say_left(rt, label, LABEL)?;
-    terminal::say_hex(rt, value)?;
-    terminal::say(rt, b"\n")
+pub fn bytes(page: &mut Page, label: &[u8], value: &[u8]) {
+    terminal::say_left(page, label, LABEL);
+    terminal::say_hex(page, value);
+    terminal::say(page, b"\n");
 }
 
 // A row of a number.
-pub fn number(rt: &impl Print, label: &[u8], value: u64) -> io::Result<()> {
-    terminal::say_left(rt, label, LABEL)?;
-    terminal::say_number(rt, value)?;
-    terminal::say(rt, b"\n")
+pub fn number(page: &mut Page, label: &[u8], value: u64) {
+    terminal::say_left(page, label, LABEL);
+    terminal::say_number(page, value);
+    terminal::say(page, b"\n");
 }
 
 // A row of a word of 32 bits, in hex.
-pub fn hex_word(rt: &impl Print, label: &[u8], value: u32) -> io::Result<()> {
-    terminal::say_left(rt, label, LABEL)?;
-    terminal::say_wide(rt, value as u64, 8)?;
-    terminal::say(rt, b"\n")
+pub fn hex_word(page: &mut Page, label: &[u8], value: u32) {
+    terminal::say_left(page, label, LABEL);
+    terminal::say_wide(page, value as u64, 8);
+    terminal::say(page, b"\n");
 }
 
 // A row of a level, by its name.
-pub fn level(rt: &impl Print, label: &[u8], value: u8) -> io::Result<()> {
-    terminal::say_left(rt, label, LABEL)?;
-    terminal::say(rt, word(&LEVELS, value as usize, b'\n'))?;
-    terminal::say(rt, b"\n")
+pub fn level(page: &mut Page, label: &[u8], value: u8) {
+    terminal::say_left(page, label, LABEL);
+    terminal::say(page, word(&LEVELS, value as usize, b'\n'));
+    terminal::say(page, b"\n");
 }
 
 // A count of bytes.
-fn counted(rt: &impl Print, count: usize) -> io::Result<()> {
-    terminal::say_number(rt, count as u64)?;
+fn counted(page: &mut Page, count: usize) {
+    terminal::say_number(page, count as u64);
     if count == 1 {
-        return terminal::say(rt, b" byte");
+        terminal::say(page, b" byte");
+        return;
     }
-    terminal::say(rt, b" bytes")
+    terminal::say(page, b" bytes");
 }
 
 // The rest of a row: bytes, if there are any.
-fn listed(rt: &impl Print, value: &[u8]) -> io::Result<()> {
+fn listed(page: &mut Page, value: &[u8]) {
     if 0 < value.len() {
-        terminal::say(rt, b": ")?;
-        terminal::say_hex(rt, value)?;
+        terminal::say(page, b": ");
+        terminal::say_hex(page, value);
     }
-    terminal::say(rt, b"\n")
+    terminal::say(page, b"\n");
 }
 
 // A row of a part of something: how long it is, where it stands, its bytes.
-pub fn part(
-    rt: &impl Print,
-    label: &[u8],
-    length: usize,
-    at: usize,
-    value: &[u8],
-) -> io::Result<()> {
-    terminal::say_left(rt, label, LABEL)?;
-    counted(rt, length)?;
-    terminal::say(rt, b" at ")?;
-    terminal::say_number(rt, at as u64)?;
-    listed(rt, value)
+pub fn part(page: &mut Page, label: &[u8], length: usize, at: usize, value: &[u8]) {
+    terminal::say_left(page, label, LABEL);
+    counted(page, length);
+    terminal::say(page, b" at ");
+    terminal::say_number(page, at as u64);
+    listed(page, value);
 }
 
 // A row of bytes with their count in front.
-pub fn sized(rt: &impl Print, label: &[u8], value: &[u8]) -> io::Result<()> {
-    terminal::say_left(rt, label, LABEL)?;
-    counted(rt, value.len())?;
-    listed(rt, value)
+pub fn sized(page: &mut Page, label: &[u8], value: &[u8]) {
+    terminal::say_left(page, label, LABEL);
+    counted(page, value.len());
+    listed(page, value);
 }
 
 // The bytes of a buffer from a place on, and nothing where they are not all there.

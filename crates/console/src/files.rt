@@ -1,5 +1,5 @@
 // Files that a call names.
-ghost use Rattle.std.specs.Prelude.{true, ◌≡◌, ◌+◌, ◌-◌, ◌^◌, min, IsOkAnd};
+ghost use Rattle.std.specs.Prelude.{true, ◌≡◌, ◌+◌, ◌-◌, ◌^◌, min};
 ghost use Rattle.octets.specs.Octets as Octets;
 ghost use Rattle.console.specs.Fields.{dash};
 ghost use Rattle.console.specs.Files.{is_comment, IsStandardInput};
@@ -7,6 +7,7 @@ ghost use Rattle.console.specs.Files.{is_comment, IsStandardInput};
 use std::io::{Input, Read};
 use std::rt::Files;
 use std::{fs, io, str};
+use terminal::Page;
 use terminal_words::{count, same};
 
 // What a call names to be read: standard input, or a file.
@@ -32,22 +33,23 @@ fn file_of<R: Files>(rt: &R, path: &[u8]) -> Option<R::File> {
 }
 
 // What is to be read, - being standard input; nothing where it cannot be opened, which is said.
-pub fn open<R: Files + Input + Print>(
+pub fn open<R: Files + Input>(
     rt: &R,
+    page: &mut Page,
     path: &[u8],
-) -> io::Result<Option<Readable<R::Reader, R::File>>>
-    ensures { Octets.same path.now dash ≡ true → IsOkAnd result IsStandardInput }
+) -> Option<Readable<R::Reader, R::File>>
+    ensures { Octets.same path.now dash ≡ true → IsStandardInput result }
 {
     if same(path, b"-") {
-        return Ok(Some(Readable::StandardInput(rt.reader())));
+        return Some(Readable::StandardInput(rt.reader()));
     }
     if let Some(file) = file_of(rt, path) {
-        return Ok(Some(Readable::File(file)));
+        return Some(Readable::File(file));
     }
-    terminal::say(rt, b"cannot open ")?;
-    terminal::say(rt, path)?;
-    terminal::say(rt, b"\n")?;
-    Ok(None)
+    terminal::say(page, b"cannot open ");
+    terminal::say(page, path);
+    terminal::say(page, b"\n");
+    None
 }
 
 // Whether a line is a comment, or has no word.
@@ -61,17 +63,17 @@ pub fn is_comment(text: &[u8]) -> bool
 }
 
 // A line that is too long is passed over.
-pub fn too_long(rt: &impl Print, line: u64) -> io::Result<()> {
-    terminal::say(rt, b"line ")?;
-    terminal::say_number(rt, line)?;
-    terminal::say(rt, b" is too long\n")
+pub fn too_long(page: &mut Page, line: u64) {
+    terminal::say(page, b"line ");
+    terminal::say_number(page, line);
+    terminal::say(page, b" is too long\n");
 }
 
 // A line cannot be read.
-pub fn unread(rt: &impl Print, line: u64) -> io::Result<()> {
-    terminal::say(rt, b"line ")?;
-    terminal::say_number(rt, line)?;
-    terminal::say(rt, b" cannot be read\n")
+pub fn unread(page: &mut Page, line: u64) {
+    terminal::say(page, b"line ");
+    terminal::say_number(page, line);
+    terminal::say(page, b" cannot be read\n");
 }
 
 // The number behind one that counts lines or datagrams; the largest stays.

@@ -1,15 +1,14 @@
 // A call, as a line of words, judged by the manual: a line for each command, with a name for each word behind it.
 #![tactic(auto)]
 
-ghost use Rattle.std.specs.Prelude.{true, false, ◌≡◌};
+ghost use Rattle.std.specs.Prelude.{true, ◌≡◌};
 ghost use Rattle.terminal_words.specs.Words.{words_from};
-ghost use Rattle.console.specs.Judging.{Judged};
 ghost use Rattle.console_calls.specs.Calls.{are_right, usage_of, enough, well_made};
 
 use console::fields::END;
 use console_keys::is_asked;
 use console_words::wrong;
-use std::io;
+use terminal::Page;
 use terminal::print::less;
 use terminal_words::{count, same, word};
 
@@ -39,94 +38,72 @@ fn usage_of<'a>(manual: &'a [u8], command: &[u8]) -> &'a [u8]
 }
 
 // The whole manual, and what its names mean.
-fn show(rt: &impl Print, manual: &[u8]) -> io::Result<()> {
-    terminal::say(rt, b"usage:\n")?;
-    terminal::say(rt, manual)?;
-    terminal::say(rt, &NOTES)
-}
-
-// Why there are not as many words behind a command as it takes.
-fn uneven(rt: &impl Print, given: u64, wanted: u64) -> io::Result<bool>
-    ensures { Judged result false }
-{
-    wrong(rt, b"call")?;
-    terminal::say_number(rt, given)?;
-    terminal::say(rt, b" words behind the command, which takes ")?;
-    terminal::say_number(rt, wanted)?;
-    terminal::say(rt, b"\n")?;
-    Ok(false)
+fn show(page: &mut Page, manual: &[u8]) {
+    terminal::say(page, b"usage:\n");
+    terminal::say(page, manual);
+    terminal::say(page, &NOTES);
 }
 
 // Whether there are as many words behind a command as the manual's line has; where not, it is said how many.
-fn are_enough(rt: &impl Print, line: &[u8], usage: &[u8]) -> io::Result<bool>
-    ensures { Judged result (enough line.now usage.now) }
+fn are_enough(page: &mut Page, line: &[u8], usage: &[u8]) -> bool
+    ensures { result ≡ enough line.now usage.now }
 {
     let given = less(count(line, END), 1);
     let wanted = less(count(usage, b' '), 2);
     if given == wanted {
-        return Ok(true);
+        return true;
     }
-    uneven(rt, given as u64, wanted as u64)
+    wrong(page, b"call");
+    terminal::say_number(page, given as u64);
+    terminal::say(page, b" words behind the command, which takes ");
+    terminal::say_number(page, wanted as u64);
+    terminal::say(page, b"\n");
+    false
 }
 
 // Whether each word behind the command is what the manual's name for it asks.
-fn are_right(rt: &impl Print, line: &[u8], usage: &[u8]) -> io::Result<bool>
+fn are_right(page: &mut Page, line: &[u8], usage: &[u8]) -> bool
     requires { enough line.now usage.now ≡ true }
-    ensures { Judged result (are_right (words_from 0 line.now 1) (words_from 32 usage.now 2)) }
+    ensures { result ≡ are_right (words_from 0 line.now 1) (words_from 32 usage.now 2) }
 {
     let given = count(line, END);
     let mut i: usize = 1;
     while i < given {
-        if !is_asked(rt, word(line, i, END), word(usage, i + 1, b' '))? {
-            return Ok(false);
+        if !is_asked(page, word(line, i, END), word(usage, i + 1, b' ')) {
+            return false;
         }
         i += 1;
     }
-    Ok(true)
+    true
 }
 
 // A word that is no command; where there is none, nothing is wrong with it.
-fn unknown(rt: &impl Print, command: &[u8]) -> io::Result<()> {
+fn unknown(page: &mut Page, command: &[u8]) {
     if 0 < command.len() {
-        wrong(rt, b"call")?;
-        terminal::say(rt, command)?;
-        terminal::say(rt, b" is no command\n")?;
+        wrong(page, b"call");
+        terminal::say(page, command);
+        terminal::say(page, b" is no command\n");
     }
-    Ok(())
-}
-
-// Why a call is none of the manual's: its command, and how calls are made.
-fn no_call(rt: &impl Print, command: &[u8], manual: &[u8]) -> io::Result<bool>
-    ensures { Judged result false }
-{
-    unknown(rt, command)?;
-    show(rt, manual)?;
-    Ok(false)
-}
-
-// How a call that was told to be wrong is made.
-fn ill_made(rt: &impl Print, usage: &[u8]) -> io::Result<bool>
-    ensures { Judged result false }
-{
-    terminal::say(rt, b"usage: ")?;
-    terminal::say(rt, usage)?;
-    terminal::say(rt, b"\n")?;
-    Ok(false)
 }
 
 // Whether a call is as the manual has it; where not, it is said what is wrong, and how it is made.
-pub fn is_well_made(rt: &impl Print, line: &[u8], manual: &[u8]) -> io::Result<bool>
-    ensures { Judged result (well_made line.now manual.now) }
+pub fn is_well_made(page: &mut Page, line: &[u8], manual: &[u8]) -> bool
+    ensures { result ≡ well_made line.now manual.now }
 {
     let command = word(line, 0, END);
     let usage = usage_of(manual, command);
     if usage.len() == 0 {
-        return no_call(rt, command, manual);
+        unknown(page, command);
+        show(page, manual);
+        return false;
     }
-    if are_enough(rt, line, usage)? {
-        if are_right(rt, line, usage)? {
-            return Ok(true);
+    if are_enough(page, line, usage) {
+        if are_right(page, line, usage) {
+            return true;
         }
     }
-    ill_made(rt, usage)
+    terminal::say(page, b"usage: ");
+    terminal::say(page, usage);
+    terminal::say(page, b"\n");
+    false
 }

@@ -2,87 +2,72 @@
 // (RFC 9001 sections 5.1 and 5.2).
 #![tactic(auto)]
 
-ghost use Rattle.std.specs.Prelude.{◌≡◌, false};
-ghost use Rattle.console.specs.Judging.{Judged};
+ghost use Rattle.std.specs.Prelude.{◌≡◌};
 ghost use Rattle.console_keys.specs.Words.{is_level, is_secret, is_origin, is_asked};
 
 use console_words::{is_hex, is_right, wrong};
-use std::io;
+use terminal::Page;
 use terminal_words::{count, same, word};
 
 // The hex digits of a secret: AES-128-GCM goes with SHA-256, which has 32 bytes.
 const SECRET: usize = 64;
 
-// Why a word names no level.
-fn no_level(rt: &impl Print) -> io::Result<bool>
-    ensures { Judged result false }
-{
-    wrong(rt, b"LEVEL")?;
-    terminal::say(rt, b"neither initial nor 0-rtt nor handshake\n")?;
-    Ok(false)
-}
-
 // Whether a word names a level; where not, it is said why.
-fn is_level(rt: &impl Print, text: &[u8]) -> io::Result<bool>
-    ensures { Judged result (is_level text.now) }
+fn is_level(page: &mut Page, text: &[u8]) -> bool
+    ensures { result ≡ is_level text.now }
 {
     if same(text, b"initial") {
-        return Ok(true);
+        return true;
     }
     if same(text, b"0-rtt") {
-        return Ok(true);
+        return true;
     }
     if same(text, b"handshake") {
-        return Ok(true);
+        return true;
     }
-    no_level(rt)
-}
-
-// Why a word is no secret: how many characters it has.
-fn no_secret(rt: &impl Print, length: u64) -> io::Result<bool>
-    ensures { Judged result false }
-{
-    wrong(rt, b"SECRET")?;
-    terminal::say_number(rt, length)?;
-    terminal::say(rt, b" characters, where 64 hex digits are 32 bytes\n")?;
-    Ok(false)
+    wrong(page, b"LEVEL");
+    terminal::say(page, b"neither initial nor 0-rtt nor handshake\n");
+    false
 }
 
 // Whether a word is a secret; where not, it is said why.
-fn is_secret(rt: &impl Print, text: &[u8]) -> io::Result<bool>
-    ensures { Judged result (is_secret text.now) }
+fn is_secret(page: &mut Page, text: &[u8]) -> bool
+    ensures { result ≡ is_secret text.now }
 {
     if text.len() == SECRET {
-        return is_hex(rt, text, b"SECRET");
+        return is_hex(page, text, b"SECRET");
     }
-    no_secret(rt, text.len() as u64)
+    wrong(page, b"SECRET");
+    terminal::say_number(page, text.len() as u64);
+    terminal::say(page, b" characters, where 64 hex digits are 32 bytes\n");
+    false
 }
 
 // Whether keys come of a word: of a level and a secret with a colon between them, or else of a connection ID; where not, it is said why.
-fn is_origin(rt: &impl Print, text: &[u8]) -> io::Result<bool>
-    ensures { Judged result (is_origin text.now) }
+fn is_origin(page: &mut Page, text: &[u8]) -> bool
+    ensures { result ≡ is_origin text.now }
 {
     if count(text, b':') != 2 {
-        return is_hex(rt, text, b"ID");
+        return is_hex(page, text, b"ID");
     }
-    if !is_level(rt, word(text, 0, b':'))? {
-        return Ok(false);
+    if !is_level(page, word(text, 0, b':')) {
+        return false;
     }
-    is_secret(rt, word(text, 1, b':'))
+    is_secret(page, word(text, 1, b':'))
 }
 
 // Whether a word is what the manual's name for it asks; where not, it is said why.
-pub fn is_asked(rt: &impl Print, text: &[u8], name: &[u8]) -> io::Result<bool>
-    ensures { Judged result (is_asked text.now name.now) }
+pub fn is_asked(page: &mut Page, text: &[u8], name: &[u8]) -> bool
+    ensures { result ≡ is_asked text.now name.now }
 {
     if same(name, b"LEVEL") {
-        return is_level(rt, text);
+        return is_level(page, text);
     }
     if same(name, b"SECRET") {
-        return is_secret(rt, text);
+        return is_secret(page, text);
     }
     if same(name, b"ID|LEVEL:SECRET") {
-        return is_origin(rt, text);
+        return is_origin(page, text);
     }
-    is_right(rt, text, name)
+    is_right(page, text, name)
 }

@@ -3,7 +3,7 @@ ghost use Rattle.std.specs.Prelude.{◌≤◌, length};
 
 use crate::{fields, print};
 use aes_engines::Both;
-use std::io;
+use terminal::Page;
 
 // A block encrypted under a key, by both engines: KEY BLOCK.
 fn encrypted(line: &[u8]) -> Both {
@@ -15,9 +15,9 @@ fn encrypted(line: &[u8]) -> Both {
 }
 
 // aes KEY BLOCK, on bytes
-pub fn aes(rt: &impl Print, line: &[u8]) -> io::Result<()> {
+pub fn aes(page: &mut Page, line: &[u8]) {
     let block = encrypted(line).bytes;
-    print::bytes(rt, &block)
+    print::bytes(page, &block);
 }
 
 // The same by the engine on words, which the library uses.
@@ -26,26 +26,26 @@ fn on_words(line: &[u8]) -> [u8; 16] {
 }
 
 // aes-words KEY BLOCK
-pub fn aes_words(rt: &impl Print, line: &[u8]) -> io::Result<()> {
-    print::bytes(rt, &on_words(line))
+pub fn aes_words(page: &mut Page, line: &[u8]) {
+    print::bytes(page, &on_words(line));
 }
 
 // aes-mask KEY SAMPLE: the first five bytes alone
-pub fn aes_mask(rt: &impl Print, line: &[u8]) -> io::Result<()> {
+pub fn aes_mask(page: &mut Page, line: &[u8]) {
     let block = on_words(line);
-    print::bytes(rt, &block[0..5])
+    print::bytes(page, &block[0..5]);
 }
 
 // aes-schedule KEY
-pub fn aes_schedule(rt: &impl Print, line: &[u8]) -> io::Result<()> {
+pub fn aes_schedule(page: &mut Page, line: &[u8]) {
     let mut key = [0u8; 16];
     fields::bytes(line, 1, &mut key);
-    print::bytes(rt, &aes_schedule::expand_key(&key))
+    print::bytes(page, &aes_schedule::expand_key(&key));
 }
 
 // aes-s-box
-pub fn aes_s_box(rt: &impl Print) -> io::Result<()> {
-    print::bytes(rt, &aes_s_box::table())
+pub fn aes_s_box(page: &mut Page) {
+    print::bytes(page, &aes_s_box::table());
 }
 
 // The ciphertext of a plaintext, at the start of a buffer at least as long, and its tag; the associated data comes in three pieces.
@@ -77,7 +77,7 @@ fn seal(
 }
 
 // gcm KEY NONCE ASSOCIATED PLAIN
-pub fn gcm(rt: &impl Print, line: &[u8]) -> io::Result<()> {
+pub fn gcm(page: &mut Page, line: &[u8]) {
     let mut key = [0u8; 16];
     fields::bytes(line, 1, &mut key);
     let mut nonce = [0u8; 12];
@@ -94,8 +94,8 @@ pub fn gcm(rt: &impl Print, line: &[u8]) -> io::Result<()> {
         &plain[..length],
         &mut out,
     );
-    terminal::say(rt, b"sealed")?;
-    print::part(rt, b"cipher,tag", 0, &out[0..length])?;
-    print::part(rt, b"cipher,tag", 1, &tag)?;
-    print::end(rt)
+    terminal::say(page, b"sealed");
+    print::part(page, b"cipher,tag", 0, &out[0..length]);
+    print::part(page, b"cipher,tag", 1, &tag);
+    print::end(page);
 }

@@ -4,43 +4,43 @@ use integers::{Integer, read_integer};
 use numbers::{FullPn, TruncatedPn};
 use numbers_recovery::{Recovered, recover};
 use numbers_shortening::{Shortened, Smallest, shorten, smallest_length};
-use std::io;
+use terminal::Page;
 
 // integer BYTES
-pub fn integer(rt: &impl Print, line: &[u8]) -> io::Result<()> {
+pub fn integer(page: &mut Page, line: &[u8]) {
     let mut bytes = [0u8; 16];
     let count = fields::bytes(line, 1, &mut bytes);
     match read_integer(&bytes[..count]) {
-        Integer::Refused(why) => print::refused(rt, why),
+        Integer::Refused(why) => print::refused(page, why),
         Integer::Read { value, taken } => {
-            terminal::say_number(rt, value)?;
-            terminal::say(rt, b" in ")?;
-            print::number(rt, taken as u64)
+            terminal::say_number(page, value);
+            terminal::say(page, b" in ");
+            print::number(page, taken as u64);
         }
     }
 }
 
 // length NUMBER ACKNOWLEDGED
-pub fn length(rt: &impl Print, line: &[u8]) -> io::Result<()> {
+pub fn length(page: &mut Page, line: &[u8]) {
     let number = console::fields::number(line, 1);
     match smallest_length(FullPn(number), wicket_words::acknowledged(line, 2)) {
-        Smallest::Refused(why) => print::refused(rt, why),
-        Smallest::Bytes(count) => print::number(rt, count as u64),
+        Smallest::Refused(why) => print::refused(page, why),
+        Smallest::Bytes(count) => print::number(page, count as u64),
     }
 }
 
 // shorten NUMBER ACKNOWLEDGED LENGTH
-pub fn short(rt: &impl Print, line: &[u8]) -> io::Result<()> {
+pub fn short(page: &mut Page, line: &[u8]) {
     let number = console::fields::number(line, 1);
     let length = console::fields::number(line, 3) as usize;
     match shorten(FullPn(number), wicket_words::acknowledged(line, 2), length) {
-        Shortened::Refused(why) => print::refused(rt, why),
-        Shortened::Short(truncated) => print::number(rt, truncated.0),
+        Shortened::Refused(why) => print::refused(page, why),
+        Shortened::Short(truncated) => print::number(page, truncated.0),
     }
 }
 
 // recover EXPECTED TRUNCATED LENGTH
-pub fn full(rt: &impl Print, line: &[u8]) -> io::Result<()> {
+pub fn full(page: &mut Page, line: &[u8]) {
     let truncated = console::fields::number(line, 2);
     let length = console::fields::number(line, 3) as usize;
     match recover(
@@ -48,7 +48,7 @@ pub fn full(rt: &impl Print, line: &[u8]) -> io::Result<()> {
         TruncatedPn(truncated),
         length,
     ) {
-        Recovered::Refused(why) => print::refused(rt, why),
-        Recovered::Full(number) => print::number(rt, number.0),
+        Recovered::Refused(why) => print::refused(page, why),
+        Recovered::Full(number) => print::number(page, number.0),
     }
 }

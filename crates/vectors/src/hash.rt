@@ -2,14 +2,14 @@
 ghost use Rattle.std.specs.Prelude.{◌≤◌, length};
 
 use crate::{fields, print};
-use std::io;
+use terminal::Page;
 
 // sha256 MESSAGE
-pub fn sha256(rt: &impl Print, line: &[u8]) -> io::Result<()> {
+pub fn sha256(page: &mut Page, line: &[u8]) {
     let mut message = [0u8; 4096];
     let length = fields::bytes(line, 1, &mut message);
     let k = sha256_constants::round_constants();
-    print::bytes(rt, &sha256::hash(&k, &message[..length]))
+    print::bytes(page, &sha256::hash(&k, &message[..length]));
 }
 
 // The hash of a block so many times.
@@ -26,55 +26,55 @@ fn repeated(block: &[u8; 64], count: u32) -> [u8; 32] {
 }
 
 // sha256-blocks BLOCK COUNT
-pub fn sha256_blocks(rt: &impl Print, line: &[u8]) -> io::Result<()> {
+pub fn sha256_blocks(page: &mut Page, line: &[u8]) {
     let mut block = [0u8; 64];
     fields::bytes(line, 1, &mut block);
     let count = console::fields::number(line, 2) % 0x100000000;
-    print::bytes(rt, &repeated(&block, count as u32))
+    print::bytes(page, &repeated(&block, count as u32));
 }
 
 // hmac KEY TEXT
-pub fn hmac(rt: &impl Print, line: &[u8]) -> io::Result<()> {
+pub fn hmac(page: &mut Page, line: &[u8]) {
     let mut key = [0u8; 4096];
     let key_length = fields::bytes(line, 1, &mut key);
     let mut text = [0u8; 4096];
     let length = fields::bytes(line, 2, &mut text);
-    print::bytes(rt, &hmac::hmac(&key[..key_length], &text[..length]))
+    print::bytes(page, &hmac::hmac(&key[..key_length], &text[..length]));
 }
 
 // extract SALT IKM
-pub fn extract(rt: &impl Print, line: &[u8]) -> io::Result<()> {
+pub fn extract(page: &mut Page, line: &[u8]) {
     let mut salt = [0u8; 4096];
     let salt_length = fields::bytes(line, 1, &mut salt);
     let mut ikm = [0u8; 4096];
     let length = fields::bytes(line, 2, &mut ikm);
-    print::bytes(rt, &hkdf::extract(&salt[..salt_length], &ikm[..length]))
+    print::bytes(page, &hkdf::extract(&salt[..salt_length], &ikm[..length]));
 }
 
 // expand PRK INFO, to 32 bytes
-pub fn expand(rt: &impl Print, line: &[u8]) -> io::Result<()> {
+pub fn expand(page: &mut Page, line: &[u8]) {
     let mut prk = [0u8; 32];
     fields::bytes(line, 1, &mut prk);
     let mut info = [0u8; 255];
     let length = fields::bytes(line, 2, &mut info);
-    print::bytes(rt, &hkdf::expand(&prk, &info[..length]))
+    print::bytes(page, &hkdf::expand(&prk, &info[..length]));
 }
 
 // As many bytes of a label's expansion as are lent.
-fn labelled(rt: &impl Print, secret: &[u8; 32], label: &[u8], out: &mut [u8]) -> io::Result<()>
+fn labelled(page: &mut Page, secret: &[u8; 32], label: &[u8], out: &mut [u8])
     requires { (length label.now ≤ 249) × (length out.old ≤ 32) }
 {
     hkdf::expand_label(secret, label, out);
-    print::bytes(rt, out)
+    print::bytes(page, out);
 }
 
 // expand-label SECRET LABEL LENGTH
-pub fn expand_label(rt: &impl Print, line: &[u8]) -> io::Result<()> {
+pub fn expand_label(page: &mut Page, line: &[u8]) {
     let mut secret = [0u8; 32];
     fields::bytes(line, 1, &mut secret);
     let mut label = [0u8; 249];
     let length = fields::bytes(line, 2, &mut label);
     let mut out = [0u8; 32];
     let size = fields::room(line, 3, &out);
-    labelled(rt, &secret, &label[..length], &mut out[..size])
+    labelled(page, &secret, &label[..length], &mut out[..size]);
 }

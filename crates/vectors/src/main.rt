@@ -15,7 +15,10 @@ mod retrying;
 mod sealing;
 
 use std::io;
+use terminal::blank;
 
 fn main(rt: HostRuntime) -> io::Result<()> {
-    lines::run(&rt)
+    let mut page = blank(rt.stdout());
+    lines::run(&rt, &mut page);
+    page.written
 }

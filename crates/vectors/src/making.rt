@@ -8,42 +8,43 @@ use console::fields::{END, number};
 use keys::{MadeKeys, install_keys};
 use keys_expansion::keys_from;
 use protection::Keys;
-use std::io;
+use terminal::Page;
 use terminal_words::{count, word};
 use wicket_words::{initial_of, side, version};
 
 // Keys, or why there are none.
-fn show(rt: &impl Print, made: MadeKeys) -> io::Result<()> {
+fn show(page: &mut Page, made: MadeKeys) {
     if made.refused != 0 {
-        return print::refused(rt, made.refused);
+        print::refused(page, made.refused);
+        return;
     }
     let keys = made.keys;
     let key = keys.key;
     let iv = keys.iv;
     let hp = keys.hp;
     let names = b"level,key,iv,hp";
-    terminal::say(rt, b"made")?;
-    print::more(rt, names, 0, keys.level as u64)?;
-    print::part(rt, names, 1, &key)?;
-    print::part(rt, names, 2, &iv)?;
-    print::part(rt, names, 3, &hp)?;
-    print::end(rt)
+    terminal::say(page, b"made");
+    print::more(page, names, 0, keys.level as u64);
+    print::part(page, names, 1, &key);
+    print::part(page, names, 2, &iv);
+    print::part(page, names, 3, &hp);
+    print::end(page);
 }
 
 // keys VERSION ID client|server
-pub fn keys(rt: &impl Print, line: &[u8]) -> io::Result<()> {
-    show(rt, initial_of(line))
+pub fn keys(page: &mut Page, line: &[u8]) {
+    show(page, initial_of(line));
 }
 
 // install VERSION LEVEL client|server SECRET: the level is a number, up to 32 bits
-pub fn install(rt: &impl Print, line: &[u8]) -> io::Result<()> {
+pub fn install(page: &mut Page, line: &[u8]) {
     let level = number(line, 2) % 0x100000000;
     let mut secret = [0u8; 32];
     fields::bytes(line, 4, &mut secret);
     show(
-        rt,
+        page,
         install_keys(version(line, 1), level as u32, side(line, 3), &secret),
-    )
+    );
 }
 
 // The keys of a call on packets: VERSION ID client|server, and blank ones where they are refused; or VERSION LEVEL:SECRET, a record

@@ -3,10 +3,10 @@ use crate::{fields, print};
 use retry_checking::Checking;
 use retry_parts::{retry_destination, retry_source, retry_token};
 use retry_writing::Writing;
-use std::io;
+use terminal::Page;
 
 // A Retry written into a buffer, which is as long as the call says.
-fn retry_into(rt: &impl Print, line: &[u8], out: &mut [u8]) -> io::Result<()> {
+fn retry_into(page: &mut Page, line: &[u8], out: &mut [u8]) {
     let mut original = [0u8; 4096];
     let original_length = fields::bytes(line, 2, &mut original);
     let mut destination = [0u8; 4096];
@@ -24,39 +24,39 @@ fn retry_into(rt: &impl Print, line: &[u8], out: &mut [u8]) -> io::Result<()> {
         console::fields::number(line, 6),
         out,
     ) {
-        Writing::Refused(why) => print::refused(rt, why),
-        Writing::Written(size) => print::written(rt, out, size),
+        Writing::Refused(why) => print::refused(page, why),
+        Writing::Written(size) => print::written(page, out, size),
     }
 }
 
 // retry VERSION ORIGINAL DESTINATION SOURCE TOKEN LOW-BITS ROOM
-pub fn retry(rt: &impl Print, line: &[u8]) -> io::Result<()> {
+pub fn retry(page: &mut Page, line: &[u8]) {
     let mut out = [0u8; 4096];
     let room = fields::room(line, 7, &out);
-    retry_into(rt, line, &mut out[..room])
+    retry_into(page, line, &mut out[..room]);
 }
 
 // The answer on a Retry, and the parts handed out of it.
-fn checked(rt: &impl Print, original: &[u8], datagram: &[u8]) -> io::Result<()> {
+fn checked(page: &mut Page, original: &[u8], datagram: &[u8]) {
     let names = b"version,destination,source,token";
     match retry_checking::check_retry(original, datagram) {
-        Checking::Refused(why) => print::refusal(rt, why)?,
+        Checking::Refused(why) => print::refusal(page, why),
         Checking::Checked(fields) => {
-            terminal::say(rt, b"checked")?;
-            print::more(rt, names, 0, fields.version as u64)?;
+            terminal::say(page, b"checked");
+            print::more(page, names, 0, fields.version as u64);
         }
     }
-    print::part(rt, names, 1, retry_destination(original, datagram))?;
-    print::part(rt, names, 2, retry_source(original, datagram))?;
-    print::part(rt, names, 3, retry_token(original, datagram))?;
-    print::end(rt)
+    print::part(page, names, 1, retry_destination(original, datagram));
+    print::part(page, names, 2, retry_source(original, datagram));
+    print::part(page, names, 3, retry_token(original, datagram));
+    print::end(page);
 }
 
 // check-retry ORIGINAL DATAGRAM [PLACE BYTE SIZE]
-pub fn check_retry(rt: &impl Print, line: &[u8]) -> io::Result<()> {
+pub fn check_retry(page: &mut Page, line: &[u8]) {
     let mut original = [0u8; 4096];
     let count = fields::bytes(line, 1, &mut original);
     let mut datagram = [0u8; 4096];
     let length = fields::packet(line, 2, &mut datagram);
-    checked(rt, &original[..count], &datagram[..length])
+    checked(page, &original[..count], &datagram[..length]);
 }

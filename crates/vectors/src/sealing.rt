@@ -4,26 +4,26 @@ use crate::{fields, print};
 use console::fields::number;
 use numbers::FullPn;
 use seal_judging::Sealing;
-use std::io;
+use terminal::Page;
 use wicket_words::acknowledged;
 
 // What sealing into a buffer answered.
-fn answer(rt: &impl Print, sealing: Sealing, out: &[u8]) -> io::Result<()> {
+fn answer(page: &mut Page, sealing: Sealing, out: &[u8]) {
     match sealing {
-        Sealing::Refused(why) => print::refused(rt, why),
-        Sealing::Written(size) => print::written(rt, out, size),
+        Sealing::Refused(why) => print::refused(page, why),
+        Sealing::Written(size) => print::written(page, out, size),
     }
 }
 
 // A packet of either form, sealed into a buffer: the long one has no token.
 fn seal_into(
-    rt: &impl Print,
+    page: &mut Page,
     line: &[u8],
     long: bool,
     token: &[u8],
     payload: &[u8],
     out: &mut [u8],
-) -> io::Result<()> {
+) {
     let keys = record_of(line);
     let full = FullPn(number(line, 4));
     let count = number(line, 6) as usize;
@@ -42,7 +42,8 @@ fn seal_into(
             payload,
             out,
         );
-        return answer(rt, sealing, out);
+        answer(page, sealing, out);
+        return;
     }
     let sealing = seal::seal(
         keys,
@@ -55,11 +56,11 @@ fn seal_into(
         payload,
         out,
     );
-    answer(rt, sealing, out)
+    answer(page, sealing, out);
 }
 
 // seal VERSION ID|LEVEL:SECRET client|server NUMBER ACKNOWLEDGED LENGTH DESTINATION SOURCE TOKEN PAYLOAD ROOM
-pub fn seal(rt: &impl Print, line: &[u8]) -> io::Result<()> {
+pub fn seal(page: &mut Page, line: &[u8]) {
     let mut token = [0u8; 4096];
     let longer = fields::bytes(line, 9, &mut token);
     let mut payload = [0u8; 4096];
@@ -67,20 +68,20 @@ pub fn seal(rt: &impl Print, line: &[u8]) -> io::Result<()> {
     let mut out = [0u8; 4096];
     let room = fields::room(line, 11, &out);
     seal_into(
-        rt,
+        page,
         line,
         false,
         &token[..longer],
         &payload[..length],
         &mut out[..room],
-    )
+    );
 }
 
 // seal-long VERSION ID|LEVEL:SECRET client|server NUMBER ACKNOWLEDGED LENGTH DESTINATION SOURCE PAYLOAD ROOM
-pub fn seal_long(rt: &impl Print, line: &[u8]) -> io::Result<()> {
+pub fn seal_long(page: &mut Page, line: &[u8]) {
     let mut payload = [0u8; 4096];
     let length = fields::bytes(line, 9, &mut payload);
     let mut out = [0u8; 4096];
     let room = fields::room(line, 10, &out);
-    seal_into(rt, line, true, b"", &payload[..length], &mut out[..room])
+    seal_into(page, line, true, b"", &payload[..length], &mut out[..room]);
 }

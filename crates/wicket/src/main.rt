@@ -11,6 +11,7 @@ mod scripts;
 mod sealing;
 
 use std::io;
+use terminal::blank;
 
 fn main(rt: HostRuntime) -> io::Result<()> {
     let manual = b"wicket keys VERSION ID client|server
@@ -24,5 +25,7 @@ wicket check-retry ORIGINAL DATAGRAM
 wicket receive VERSION ID|LEVEL:SECRET client|server EXPECTED FILE
 wicket script FILE
 ";
-    scripts::program(&rt, manual)
+    let mut page = blank(rt.stdout());
+    scripts::program(&rt, &mut page, manual);
+    page.written
 }

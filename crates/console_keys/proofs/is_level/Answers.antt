@@ -6,20 +6,20 @@ use Rattle.console_keys.proofs.is_level.Goals as goal
 
 pub returns-then-same : goal.returns-then-same
 unfolding is_level ascii
-returns-then-same g c =
+returns-then-same c =
     let initial = sym c.same.ensures ∙ c.if-same.true in
     rw initial
 
 pub returns-then-same-2 : goal.returns-then-same-2
 unfolding is_level ascii
-returns-then-same-2 g c =
+returns-then-same-2 c =
     let initial = sym c.same.ensures ∙ c.if-same.false in
     let early = sym c.same-2.ensures ∙ c.if-same-2.true in
     rw (initial, early)
 
 pub returns-then-same-3 : goal.returns-then-same-3
 unfolding is_level ascii
-returns-then-same-3 g c =
+returns-then-same-3 c =
     let initial = sym c.same.ensures ∙ c.if-same.false in
     let early = sym c.same-2.ensures ∙ c.if-same-2.false in
     let handshake = sym c.same-3.ensures ∙ c.if-same-3.true in
@@ -27,8 +27,8 @@ returns-then-same-3 g c =
 
 pub returns : goal.returns
 unfolding is_level ascii
-returns g c =
+returns c =
     let initial = sym c.same.ensures ∙ c.if-same.false in
     let early = sym c.same-2.ensures ∙ c.if-same-2.false in
     let handshake = sym c.same-3.ensures ∙ c.if-same-3.false in
-    rw (initial, early, handshake) c.no_level.ensures
+    rw (initial, early, handshake)

@@ -8,17 +8,17 @@ use Rattle.console_words.proofs.is_hex.Goals as goal
 
 pub returns-then-same : goal.returns-then-same
 unfolding is_hex ascii
-returns-then-same g c = rw (sym c.same.ensures ∙ c.if-same.true)
+returns-then-same c = rw (sym c.same.ensures ∙ c.if-same.true)
 
 pub returns-then-good-text : goal.returns-then-good-text
 unfolding ascii
-returns-then-good-text g c = rw (hex-not _ (sym c.same.ensures ∙ c.if-same.false) (omega arith)) c.no_digit.ensures
+returns-then-good-text c = sym (hex-not _ (sym c.same.ensures ∙ c.if-same.false) (omega arith))
 
 pub returns-then-text-ne0 : goal.returns-then-text-ne0
 unfolding ascii
-returns-then-text-ne0 g c =
-    rw (hex-odd _ (sym c.same.ensures ∙ c.if-same.false) (omega arith) c.if-text-ne0.true) c.odd.ensures
+returns-then-text-ne0 c =
+    sym (hex-odd _ (sym c.same.ensures ∙ c.if-same.false) (omega arith) c.if-text-ne0.true)
 
 pub returns : goal.returns
 unfolding ascii
-returns g c = rw (hex-even _ (sym c.same.ensures ∙ c.if-same.false) (omega arith) c.if-text-ne0.false)
+returns c = sym (hex-even _ (sym c.same.ensures ∙ c.if-same.false) (omega arith) c.if-text-ne0.false)

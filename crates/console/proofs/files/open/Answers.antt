@@ -8,18 +8,6 @@ pub returns-in-Some : goal.returns-in-Some
 unfolding ascii
 returns-in-Some g c = λ h. absurd (false≢true (sym c.if-same.false ∙ c.same.ensures ∙ h))
 
-pub returns-in_err-say : goal.returns-in_err-say
-unfolding ascii
-returns-in_err-say g c = λ h. absurd (false≢true (sym c.if-same.false ∙ c.same.ensures ∙ h))
-
-pub returns-in_err-say-2 : goal.returns-in_err-say-2
-unfolding ascii
-returns-in_err-say-2 g c = λ h. absurd (false≢true (sym c.if-same.false ∙ c.same.ensures ∙ h))
-
-pub returns-in_err-say-3 : goal.returns-in_err-say-3
-unfolding ascii
-returns-in_err-say-3 g c = λ h. absurd (false≢true (sym c.if-same.false ∙ c.same.ensures ∙ h))
-
 pub returns : goal.returns
 unfolding ascii
 returns g c = λ h. absurd (false≢true (sym c.if-same.false ∙ c.same.ensures ∙ h))
