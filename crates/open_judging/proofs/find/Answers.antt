@@ -1,11 +1,9 @@
 -- Each refusal is one law, and so is what is found.
-use mathlib.Core.Path.{sym, ap, ◌∙◌}
+use mathlib.Core.Path.{sym, ◌∙◌}
 use native.Mathlib.Omega.{arith}
 use Rattle.header_forms.specs.Rules.{in_force}
 use Rattle.header_forms.specs.Forms.{long_form}
-use Rattle.header_forms.specs.Answers.{formed_answer}
 use Rattle.header_forms.proofs.Forms.{formed-fits}
-use Rattle.header_reading.specs.Answers.{reading_answer}
 use Rattle.header_reading.proofs.PacketHeaders.{header-there}
 use Rattle.protection.specs.KeyRecord.{keys_of}
 use Rattle.protection.specs.AesGcm.{aes_gcm}
@@ -23,27 +21,27 @@ returns-then-not-is_known c = open-version aes_gcm in_force _ _ _ _ (omega arith
 pub returns-in-Refused : goal.returns-in-Refused
 returns-in-Refused c =
     let ours = sym c.is_known.ensures ∙ c.if-not-is_known.false in
-    open-form aes_gcm in_force _ _ _ _ (omega arith) ours (sym (ap formed_answer c.in-Refused.is) ∙ c.judge_form.ensures)
+    open-form aes_gcm in_force _ _ _ _ (omega arith) ours c.in-Refused.ensures
 
 pub returns-in-Refused-read_fields : goal.returns-in-Refused-read_fields
 returns-in-Refused-read_fields c =
     let a = c.args in
     let ours = sym c.is_known.ensures ∙ c.if-not-is_known.false in
-    let long = sym (ap formed_answer c.in-Right.is) ∙ c.judge_form.ensures in
-    open-header aes_gcm in_force (keys_of a.keys) a.expected a.datagram.now a.room (omega arith) ours long (sym (ap reading_answer c.in-Refused-read_fields.is) ∙ c.read_fields.ensures)
+    let long = c.in-Right.ensures in
+    open-header aes_gcm in_force (keys_of a.keys) a.expected a.datagram.now a.room (omega arith) ours long c.in-Refused-read_fields.ensures
 
 pub overflow_add-place : goal.overflow_add-place
 overflow_add-place c =
     let a = c.args in
-    let long = sym (ap formed_answer c.in-Right.is) ∙ c.judge_form.ensures in
-    let read = sym (ap reading_answer c.in-Read.is) ∙ c.read_fields.ensures in
+    let long = c.in-Right.ensures in
+    let read = c.in-Read.ensures in
     let there = header-there (of_keys (keys_of a.keys)) a.datagram.now read in
     omega (arith, there.all, formed-fits in_force long_form a.datagram.now long)
 
 pub overflow_sub-place : goal.overflow_sub-place
 overflow_sub-place c =
     let a = c.args in
-    let read = sym (ap reading_answer c.in-Read.is) ∙ c.read_fields.ensures in
+    let read = c.in-Read.ensures in
     let there = header-there (of_keys (keys_of a.keys)) a.datagram.now read in
     omega arith
 
@@ -51,22 +49,22 @@ pub returns-then-room-place : goal.returns-then-room-place
 returns-then-room-place c =
     let a = c.args in
     let ours = sym c.is_known.ensures ∙ c.if-not-is_known.false in
-    let long = sym (ap formed_answer c.in-Right.is) ∙ c.judge_form.ensures in
-    let read = sym (ap reading_answer c.in-Read.is) ∙ c.read_fields.ensures in
+    let long = c.in-Right.ensures in
+    let read = c.in-Read.ensures in
     open-room aes_gcm in_force (keys_of a.keys) a.expected a.datagram.now a.room (omega arith) ours long read (omega arith)
 
 pub reveal-requires : goal.reveal-requires
 reveal-requires c =
     let a = c.args in
     let ours = sym c.is_known.ensures ∙ c.if-not-is_known.false in
-    let long = sym (ap formed_answer c.in-Right.is) ∙ c.judge_form.ensures in
-    let read = sym (ap reading_answer c.in-Read.is) ∙ c.read_fields.ensures in
+    let long = c.in-Right.ensures in
+    let read = c.in-Read.ensures in
     placed (keys_of a.keys) a.expected a.datagram.now a.room (omega arith) ours long read
 
 pub returns : goal.returns
 returns c =
     let a = c.args in
     let ours = sym c.is_known.ensures ∙ c.if-not-is_known.false in
-    let long = sym (ap formed_answer c.in-Right.is) ∙ c.judge_form.ensures in
-    let read = sym (ap reading_answer c.in-Read.is) ∙ c.read_fields.ensures in
+    let long = c.in-Right.ensures in
+    let read = c.in-Read.ensures in
     found (keys_of a.keys) a.expected a.datagram.now a.room (omega arith) ours long read (omega arith) c.reveal.result c.reveal.ensures

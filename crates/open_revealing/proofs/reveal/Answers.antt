@@ -1,6 +1,5 @@
 -- Each refusal is one law, and so is what is found.
-use mathlib.Core.Path.{sym, ap, ◌∙◌}
-use Rattle.numbers_recovery.specs.Answers.{recovered_answer}
+use mathlib.Core.Path.{sym, ◌∙◌}
 use Rattle.header_forms.specs.Answers.{form_of}
 use Rattle.protection.specs.KeyRecord.{keys_of}
 use Rattle.open_revealing.proofs.Revealing.{bits-refused, range-refused, packet-revealed}
@@ -16,12 +15,12 @@ pub returns-in-Refused : goal.returns-in-Refused
 returns-in-Refused c =
     let a = c.args in
     let zeros = sym c.reserved_bits.ensures ∙ c.if-reserved_bits-ne0.false in
-    let recovery = sym (ap recovered_answer c.in-Refused.is) ∙ c.recover.ensures.answer in
+    let recovery = c.in-Refused.ensures.answer in
     range-refused (form_of a.form) (keys_of a.keys) a.expected a.datagram.now a.place a.length c.requires c.unmask-bare.ensures zeros recovery
 
 pub returns-in-Full : goal.returns-in-Full
 returns-in-Full c =
     let a = c.args in
     let zeros = sym c.reserved_bits.ensures ∙ c.if-reserved_bits-ne0.false in
-    let recovery = sym (ap recovered_answer c.in-Full.is) ∙ c.recover.ensures.answer in
+    let recovery = c.in-Full.ensures.answer in
     packet-revealed (form_of a.form) (keys_of a.keys) a.expected a.datagram.now a.place a.length c.requires c.unmask-bare.ensures zeros _ recovery
