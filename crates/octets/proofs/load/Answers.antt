@@ -9,32 +9,32 @@ use Rattle.octets.proofs.load.Goals as goal
 
 pub overflow_mul-value : goal.overflow_mul-value
 overflow_mul-value c =
-    let l = c.loop-i in
-    let small : 8 * l.i ≤ 56 = omega arith in
+    let l = c.loop-byte in
+    let small : 8 * l.byte-index ≤ 56 = omega arith in
     omega (arith, pow_mono small)
 
 pub overflow_add-value : goal.overflow_add-value
 overflow_add-value c =
-    let l = c.loop-i in
-    let small : 8 * l.i ≤ 56 = omega arith in
-    omega (arith, pow_mono small, c.type_inv.source l.i)
+    let l = c.loop-byte in
+    let small : 8 * l.byte-index ≤ 56 = omega arith in
+    omega (arith, pow_mono small, c.type_inv.source l.byte-index)
 
-pub loop-i-preserved : goal.loop-i-preserved
-loop-i-preserved c =
-    let l = c.loop-i in
+pub loop-byte-preserved : goal.loop-byte-preserved
+loop-byte-preserved c =
+    let l = c.loop-byte in
     let source = c.args.source.now in
-    let byte = c.type_inv.source l.i in
-    let inside : l.i < length source = omega arith in
-    let power : 2 ^ (8 * (l.i + 1)) ≡ 2 ^ (8 * l.i) * 256 = let e : 8 * (l.i + 1) ≡ 8 * l.i + 8 = omega arith in rw e (pow-add 2 (8 * l.i) 8) in (
+    let byte = c.type_inv.source l.byte-index in
+    let inside : l.byte-index < length source = omega arith in
+    let power : 2 ^ (8 * (l.byte-index + 1)) ≡ 2 ^ (8 * l.byte-index) * 256 = let e : 8 * (l.byte-index + 1) ≡ 8 * l.byte-index + 8 = omega arith in rw e (pow-add 2 (8 * l.byte-index) 8) in (
       omega arith,
       omega (arith, power, byte),
-      read-turn source l.i l.value _ inside c.wide.ensures ∙ l.invariant.2,
+      read-turn source l.byte-index l.value _ inside c.from.ensures ∙ l.invariant.2,
     )
 
 pub returns : goal.returns
 unfolding number
 returns c =
-    let l = c.loop-i in
+    let l = c.loop-byte in
     let source = c.args.source.now in
-    let end : length source ≤ l.i = omega arith in
+    let end : length source ≤ l.byte-index = omega arith in
     sym (ap (read_on l.value) (drop_of_length-le source end)) ∙ l.invariant.2
