@@ -4,10 +4,9 @@ use mathlib.Core.List.{List, [], ◌∷◌, ◌++◌}
 use mathlib.Core.Path.{◌≡◌, refl, sym, ap, ap₂, ◌∙◌}
 use native.Mathlib.Omega.{arith}
 use lib.ListN.{length, take, length-append}
-use lib.Seq.{length-take-le}
 use Rattle.octets.specs.Octets.{bytes, laid, begun}
 use Rattle.octets.proofs.Numbers.{bytes-length}
-use Rattle.octets.proofs.Buffers.{laid-all, begun_more}
+use Rattle.octets.proofs.Buffers.{begun_more}
 use Rattle.octets.specs.Text.{ascii}
 use Rattle.hmac.specs.Hmac.{hmac}
 use Rattle.hkdf.specs.Hkdf.{T, Ts, expand, tls13, info, expand_label}
@@ -76,11 +75,7 @@ info-written d d1 d2 d3 d4 d5 prefix label L n w at e1 e2 e3 e4 e5 size length-b
     let four = e4 ∙ ap (λ (x : List ℕ). laid x 9 label) three in
     e5 ∙ ap₂ (λ (x : List ℕ) (k : ℕ). laid x k (bytes 1 0)) four end ∙ info-laid d label L (6 + length label) refl
 
--- the first block, cut to the buffer that is lent
-pub expand-label-is : (out secret label block : List ℕ) → length out ≤ 32 → length block ≡ 32 → block ≡ T secret (info label (length out)) 1
-    → laid out 0 (take (length out) block) ≡ expand_label secret label (length out)
+-- the first block, cut to what is asked for
+pub expand-label-is : (secret label block : List ℕ) (L : ℕ) → L ≤ 32 → block ≡ T secret (info label L) 1 → take L block ≡ expand_label secret label L
 unfolding expand_label
-expand-label-is out secret label block short long e =
-    let L : ℕ = length out in
-    let size : length (take L block) ≡ L = length-take-le L block (omega arith) in
-    laid-all out (take L block) (sym size) ∙ ap (take L) e ∙ expand-short secret (info label L) L short
+expand-label-is secret label block L short e = ap (take L) e ∙ expand-short secret (info label L) L short

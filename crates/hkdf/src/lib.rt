@@ -51,5 +51,5 @@ pub fn expand_label(secret: &[u8; 32], label: &[u8], out: &mut [u8])
     let size = out.len();
     write_info(&mut info, label, size as u64);
     let block = expand(secret, &info[..end]);
-    octets::copy(out, 0, &block[..size]);
+    out.copy_from_slice(&block[..size]);
 }

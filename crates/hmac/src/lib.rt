@@ -2,9 +2,10 @@
 #![tactic(auto)]
 
 ghost use Rattle.std.specs.Prelude.{◌≡◌, ◌++◌, ◌+◌, ◌*◌, ◌^◌, ◌≤◌, ◌<◌, length};
-ghost use Rattle.sha256_constants.specs.Constants.{K};
 ghost use Rattle.sha256.specs.Sha256.{hash};
 ghost use Rattle.hmac.specs.Hmac.{keyed, ipad, opad, hmac};
+
+use sha256_constants::Constants;
 
 // RFC 2104 section 2: the bytes of a block of the hash.
 const BLOCK: usize = 64;
@@ -26,8 +27,8 @@ fn keyed_block(key: &[u8], pad: u8) -> [u8; 64]
 }
 
 // RFC 2104 section 2: the hash of a keyed block and a text behind it.
-fn keyed_hash(k: &[u32; 64], key: &[u8], pad: u8, text: &[u8]) -> [u8; 32]
-    requires { (length key.now ≤ 64) × (8 * (64 + length text.now) < 2 ^ 64) × (k.now ≡ K) }
+fn keyed_hash(k: &Constants, key: &[u8], pad: u8, text: &[u8]) -> [u8; 32]
+    requires { (length key.now ≤ 64) × (8 * (64 + length text.now) < 2 ^ 64) }
     ensures { result ≡ hash (keyed key.now pad ++ text.now) }
 {
     let block = keyed_block(key, pad);
@@ -36,8 +37,8 @@ fn keyed_hash(k: &[u32; 64], key: &[u8], pad: u8, text: &[u8]) -> [u8; 32]
 }
 
 // RFC 2104 section 2: the two hashes of a text, one within the other, under a key of up to a block.
-fn nested(k: &[u32; 64], key: &[u8], text: &[u8]) -> [u8; 32]
-    requires { (length key.now ≤ 64) × (8 * (64 + length text.now) < 2 ^ 64) × (k.now ≡ K) }
+fn nested(k: &Constants, key: &[u8], text: &[u8]) -> [u8; 32]
+    requires { (length key.now ≤ 64) × (8 * (64 + length text.now) < 2 ^ 64) }
     ensures { result ≡ hash (keyed key.now opad ++ hash (keyed key.now ipad ++ text.now)) }
 {
     let inner = keyed_hash(k, key, INNER_PAD, text);
@@ -45,6 +46,8 @@ fn nested(k: &[u32; 64], key: &[u8], text: &[u8]) -> [u8; 32]
 }
 
 // RFC 2104: HMAC of a text. A key longer than a block is hashed first.
+// Kept: the bounds on a text, and on a key in the three functions above, are no type: callers lend plain slices, and a struct round one
+// would ask for the bound where it is built.
 pub fn hmac(key: &[u8], text: &[u8]) -> [u8; 32]
     requires { (8 * length key.now < 2 ^ 64) × (8 * (64 + length text.now) < 2 ^ 64) }
     ensures { result ≡ hmac key.now text.now }

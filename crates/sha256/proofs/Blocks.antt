@@ -4,7 +4,7 @@ use mathlib.Core.List.{List, [], ◌∷◌, ◌++◌, foldl, append_assoc}
 use mathlib.Core.Path.{◌≡◌, sym, ap, ap₂, ◌∙◌}
 use native.Mathlib.Omega.{arith}
 use lib.ListN.{length, take, drop, length-append, length-drop, take-append-drop}
-use lib.Seq.{take_all, take-append-le, drop-append-le, length-take-le, drop-drop}
+use lib.Seq.{take_all, take_at, drop_at, take-append-le, drop-append-le, length-take-le}
 use Rattle.octets.specs.Octets.{part}
 use Rattle.octets.proofs.Parts.{to_end}
 use Rattle.sha256_constants.specs.Constants.{H⁰}
@@ -25,10 +25,12 @@ absorbed-none h m l =
     ap (λ (n : ℕ). foldl compressed h (parsed n 64 m)) none
 
 -- a turn of a loop over the blocks
-pub absorbed-turn : (h m r : List ℕ) (at n : ℕ) → at + 64 ≤ length m → n ≡ 64 → r ≡ compressed h (part m at n) → absorbed r (drop (at + 64) m) ≡ absorbed h (drop at m)
-absorbed-turn h m r at n l e er =
-    let inside : 64 ≤ length (drop at m) = omega (arith, length-drop at m) in
-    ap₂ absorbed (er ∙ ap (λ (k : ℕ). compressed h (part m at k)) e) (sym (drop-drop 64 at m)) ∙ sym (absorbed-one h (drop at m) inside)
+pub absorbed-turn : (h m r block next : List ℕ) → m ≡ block ++ next → length block ≡ 64 → r ≡ compressed h block → absorbed r next ≡ absorbed h m
+absorbed-turn h m r block next cut size er =
+    let whole : 64 ≤ length m = omega (arith, ap length cut, length-append block next) in
+    let first : take 64 m ≡ block = ap (take 64) cut ∙ take_at block next 64 size in
+    let left : drop 64 m ≡ next = ap (drop 64) cut ∙ drop_at block next 64 size in
+    ap₂ absorbed (er ∙ ap (compressed h) (sym first)) (sym left) ∙ sym (absorbed-one h m whole)
 
 -- whole blocks, and then more
 absorbed-append : (n : ℕ) (h b m : List ℕ) → length b ≡ 64 * n → absorbed h (b ++ m) ≡ absorbed (absorbed h b) m

@@ -19,11 +19,20 @@ const INITIAL: [u32; 8] = [
     0x6a09e667, 0xbb67ae85, 0x3c6ef372, 0xa54ff53a, 0x510e527f, 0x9b05688c, 0x1f83d9ab, 0x5be0cd19,
 ];
 
-// Section 4.2.2: the round constants.
-pub fn round_constants() -> [u32; 64]
-    ensures { result ≡ K }
+// Section 4.2.2: the round constants. Whoever lends them lends K, and no function asks for that.
+#[derive(Drop)]
+pub struct Constants {
+    pub words: [u32; 64],
+    pub ghost are_k: { words ≡ K },
+}
+
+// The table, to be made once for all that a caller hashes.
+pub fn round_constants() -> Constants
+    ensures { result.words ≡ K }
 {
-    ROUND_CONSTANTS
+    Constants {
+        words: ROUND_CONSTANTS,
+    }
 }
 
 // Section 5.3.3: the initial hash value.

@@ -5,7 +5,6 @@ ghost use Rattle.std.specs.Prelude.{◌≡◌, ℕ, ◌<◌, length, slice_index
 ghost use Rattle.sha256_schedule.specs.Schedule.{words, W};
 
 use sha256_words::{small_sigma0, small_sigma1};
-use std::num::wrapping_add_u32;
 
 // Section 5.2.1: the sixteen words of a block.
 pub fn parse(block: &[u8]) -> [u32; 16]
@@ -13,10 +12,8 @@ pub fn parse(block: &[u8]) -> [u32; 16]
     ensures { result ≡ words block.now }
 {
     let mut m = [0u32; 16];
-    let mut i: usize = 0;
-    while i < 16 {
+    for i in 0..16 {
         m[i] = octets::word(block, 4 * i);
-        i += 1;
     }
     m
 }
@@ -29,8 +26,10 @@ fn schedule_word(m: &[u32; 16], w: &[u32; 64], t: usize) -> u32
     if t < 16 {
         return m[t];
     }
-    let latest = wrapping_add_u32(small_sigma1(w[t - 2]), w[t - 7]);
-    wrapping_add_u32(wrapping_add_u32(latest, small_sigma0(w[t - 15])), w[t - 16])
+    small_sigma1(w[t - 2])
+        .wrapping_add(w[t - 7])
+        .wrapping_add(small_sigma0(w[t - 15]))
+        .wrapping_add(w[t - 16])
 }
 
 // Section 6.2.2 step 1: the message schedule of a block's words.
@@ -38,10 +37,8 @@ pub fn schedule(m: [u32; 16]) -> [u32; 64]
     ensures { (t : ℕ) → t < 64 → slice_index result t ≡ W m t }
 {
     let mut w = [0u32; 64];
-    let mut t: usize = 0;
-    while t < 64 {
+    for t in 0..64 {
         w[t] = schedule_word(&m, &w, t);
-        t += 1;
     }
     w
 }

@@ -9,7 +9,7 @@ pub fn rotate_right(x: u32, n: u32) -> u32
     requires { (0 < n) × (n < 32) }
     ensures { result ≡ ROTR n x }
 {
-    (x >> n) | (x << (32 - n))
+    x.rotate_right(n)
 }
 
 // Ch: each bit of y where x has a one, of z where it has a zero.
@@ -27,6 +27,7 @@ pub fn majority(x: u32, y: u32, z: u32) -> u32
 }
 
 // Σ0, of the rounds.
+// Kept: Σ0, Σ1, σ0 and σ1 stay four: each body is the paper's own equation, and one with distances as parameters adds three bounds.
 pub fn big_sigma0(x: u32) -> u32
     ensures { result ≡ Σ₀ x }
 {

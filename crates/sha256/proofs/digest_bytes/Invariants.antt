@@ -1,12 +1,7 @@
--- After i turns the bytes of the first i words are written.
-use Prim.Native.Nat.{◌-◌, ◌≤◌}
-use mathlib.Core.Path.{◌≡◌}
-use lib.ListN.{length}
+-- Before turn i the bytes of the first i words are written.
+use Rattle.std.proofs.Common.{◌≡◌, length}
 use Rattle.sha256.proofs.Digest.{written}
 use Rattle.sha256.proofs.digest_bytes.Given as goal
 
 abbrev pub invariant-loop-i : goal.invariant-loop-i
-invariant-loop-i l = (l.i ≤ 8) × (length l.bytes ≡ 32) × (l.bytes ≡ written l.h l.i)
-
-abbrev pub decreases-loop-i : goal.decreases-loop-i
-decreases-loop-i l = 8 - l.i
+invariant-loop-i l = (length l.bytes ≡ 32) × (l.bytes ≡ written l.h l.i)

@@ -1,8 +1,8 @@
 -- The code's table is that of the definition, entry by entry.
-use mathlib.Core.Path.{refl}
+use Rattle.std.proofs.Common.{refl}
 use Rattle.sha256_constants.specs.Constants.{K}
 use Rattle.sha256_constants.proofs.round_constants.Goals as goal
 
-pub returns : goal.returns
+pub invariant_of-result : goal.invariant_of-result
 unfolding K
-returns c = refl
+invariant_of-result c = record { are_k = refl }

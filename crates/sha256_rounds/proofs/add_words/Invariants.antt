@@ -1,11 +1,8 @@
--- After i turns the first i words are the sums.
-use Rattle.std.proofs.Common.{◌≡◌, ◌-◌, ◌≤◌, length}
+-- Before turn i the first i words are the sums.
+use Rattle.std.proofs.Common.{◌≡◌, length}
 use Rattle.octets.proofs.Rule.{Filled}
 use Rattle.sha256_rounds.proofs.Sums.{sum_at}
 use Rattle.sha256_rounds.proofs.add_words.Given as goal
 
 abbrev pub invariant-loop-i : goal.invariant-loop-i
-invariant-loop-i l = (l.i ≤ 8) × (length l.next ≡ 8) × Filled (sum_at l.v l.h) l.next l.i
-
-abbrev pub decreases-loop-i : goal.decreases-loop-i
-decreases-loop-i l = 8 - l.i
+invariant-loop-i l = (length l.next ≡ 8) × Filled (sum_at l.v l.h) l.next l.i

@@ -6,4 +6,4 @@ pub returns : goal.returns
 returns c =
     let l = c.loop-i in
     let all : l.i ≡ 16 = omega arith in
-    words_are l.m c.args.block.now l.invariant.1 (rw all at l.invariant.2)
+    words_are l.m c.args.block.now l.invariant.0 (rw all at l.invariant.1)

@@ -1,11 +1,8 @@
--- After t turns the first t words of the schedule are there.
-use Rattle.std.proofs.Common.{◌≡◌, ◌-◌, ◌≤◌, length}
+-- Before turn t the first t words of the schedule are there.
+use Rattle.std.proofs.Common.{◌≡◌, length}
 use Rattle.octets.proofs.Rule.{Filled}
 use Rattle.sha256_schedule.specs.Schedule.{W}
 use Rattle.sha256_schedule.proofs.schedule.Given as goal
 
 abbrev pub invariant-loop-t : goal.invariant-loop-t
-invariant-loop-t l = (l.t ≤ 64) × (length l.w ≡ 64) × Filled (W l.m) l.w l.t
-
-abbrev pub decreases-loop-t : goal.decreases-loop-t
-decreases-loop-t l = 64 - l.t
+invariant-loop-t l = (length l.w ≡ 64) × Filled (W l.m) l.w l.t
