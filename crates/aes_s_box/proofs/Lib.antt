@@ -1,3 +1,3 @@
-pub mod SBox
+pub mod Entries
 pub mod Bytes
 pub mod OneAnswer

@@ -23,17 +23,25 @@ const S_BOX: [u8; 256] = *b"\
     \xe1\xf8\x98\x11\x69\xd9\x8e\x94\x9b\x1e\x87\xe9\xce\x55\x28\xdf\
     \x8c\xa1\x89\x0d\xbf\xe6\x42\x68\x41\x99\x2d\x0f\xb0\x54\xbb\x16";
 
-// The whole table.
-pub fn table() -> [u8; 256]
-    ensures { Box result }
-{
-    S_BOX
+// A table of the S-box's bytes.
+#[derive(Drop)]
+pub struct SBox {
+    pub bytes: [u8; 256],
+    pub ghost is_box: { Box bytes },
 }
 
-// Section 5.1.1: a byte, substituted.
-pub fn substitute(table: &[u8; 256], b: u8) -> u8
-    requires { Box table.now }
-    ensures { result ≡ s_box b }
+impl SBox {
+    // Section 5.1.1: a byte, substituted.
+    pub fn substitute(&self, b: u8) -> u8
+        ensures { result ≡ s_box b }
+    {
+        self.bytes[b as usize]
+    }
+}
+
+// The whole table.
+pub fn table() -> SBox
+    ensures { Box result.bytes }
 {
-    table[b as usize]
+    SBox { bytes: S_BOX }
 }

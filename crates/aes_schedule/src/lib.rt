@@ -1,10 +1,11 @@
 // The key schedule (FIPS 197 section 5.2): 44 words of four bytes, one after the other.
 #![tactic(auto)]
 
-ghost use Rattle.std.specs.Prelude.{◌≡◌, ◌%◌, ◌≤◌, ◌<◌, length, eqb};
-ghost use Rattle.aes_s_box.specs.Box.{Box};
+ghost use Rattle.std.specs.Prelude.{◌≡◌, ◌*◌, ◌%◌, ◌≤◌, ◌<◌, length, eqb};
+ghost use Rattle.octets.specs.Octets.{part};
 ghost use Rattle.aes_schedule.specs.Expansion.{word, rot_word, Powers, rcon, turned, next_word, expansion};
 
+use aes_s_box::SBox;
 use aes_state::{sub_word, sum};
 
 // Table 5: the first bytes of Rcon[1] to Rcon[10], the powers of x.
@@ -22,8 +23,7 @@ fn rcon(j: usize) -> [u8; 4]
     requires { (1 ≤ j) × (j ≤ 10) }
     ensures { result ≡ rcon j }
 {
-    let table = powers();
-    [table[j - 1], 0, 0, 0]
+    [powers()[j - 1], 0, 0, 0]
 }
 
 // RotWord.
@@ -34,45 +34,53 @@ fn rot_word(a: [u8; 4]) -> [u8; 4]
 }
 
 // Algorithm 2: what is made of the word before word i.
-fn turned(table: &[u8; 256], temp: [u8; 4], i: usize) -> [u8; 4]
-    requires { Box table.now × (4 ≤ i) × (i < 44) }
+fn turned(sbox: &SBox, temp: [u8; 4], i: usize) -> [u8; 4]
+    requires { (4 ≤ i) × (i < 44) }
     ensures { result ≡ turned (eqb (i % 4) 0) i temp }
 {
     if i % 4 == 0 {
-        return sum(sub_word(table, rot_word(temp)), rcon(i / 4));
+        return sum(sub_word(sbox, rot_word(temp)), rcon(i / 4));
     }
     temp
 }
 
 // Word i of the schedule.
-fn word(w: &[u8], i: usize) -> [u8; 4]
-    requires { (i < 44) × (length w.now ≡ 176) }
+// Kept: that an index is below 44 is said by three steps of one loop, each of another index (i, i - 1, i - 4): no value travels.
+fn word(w: &[u8; 176], i: usize) -> [u8; 4]
+    requires { i < 44 }
     ensures { result ≡ word w.now i }
 {
-    let at = 4 * i;
-    [w[at], w[at + 1], w[at + 2], w[at + 3]]
+    std::array::from_fn(|j| w[4 * i + j])
 }
 
 // Algorithm 2: word i, from the words before it.
-fn next_word(table: &[u8; 256], w: &[u8], i: usize) -> [u8; 4]
-    requires { Box table.now × (4 ≤ i) × (i < 44) × (length w.now ≡ 176) }
+fn next_word(sbox: &SBox, w: &[u8; 176], i: usize) -> [u8; 4]
+    requires { (4 ≤ i) × (i < 44) }
     ensures { result ≡ next_word w.now i }
 {
-    sum(word(w, i - 4), turned(table, word(w, i - 1), i))
+    sum(word(w, i - 4), turned(sbox, word(w, i - 1), i))
 }
 
 // Section 5.2: KeyExpansion.
 pub fn expand_key(key: &[u8; 16]) -> [u8; 176]
     ensures { result ≡ expansion key.now }
 {
-    let table = aes_s_box::table();
+    let sbox = aes_s_box::table();
     let mut w = [0u8; 176];
     octets::copy(&mut w, 0, key);
-    let mut i = 4;
-    while i < 44 {
-        let next = next_word(&table, &w, i);
+    for i in 4..44 {
+        let next = next_word(&sbox, &w, i);
         octets::copy(&mut w, 4 * i, &next);
-        i += 1;
     }
     w
+}
+
+// Section 5.1: the round key of a round, four words of the schedule.
+pub fn round_key(schedule: &[u8; 176], round: usize) -> &[u8]
+    requires { round ≤ 10 }
+    ensures part { result.now ≡ part schedule.now (16 * round) 16 }
+    ensures whole { length result.now ≡ 16 }
+{
+    let at = 16 * round;
+    &schedule[at..at + 16]
 }

@@ -8,10 +8,7 @@ ghost use Rattle.aes_shifting.specs.Shifting.{shift_rows};
 pub fn shift_rows(s: [[u8; 4]; 4]) -> [[u8; 4]; 4]
     ensures { result ≡ shift_rows s }
 {
-    let a = s[0];
-    let b = s[1];
-    let c = s[2];
-    let d = s[3];
+    let [a, b, c, d] = s;
     [
         [a[0], a[1], a[2], a[3]],
         [b[1], b[2], b[3], b[0]],

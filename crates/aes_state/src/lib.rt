@@ -2,29 +2,22 @@
 #![tactic(auto)]
 
 ghost use Rattle.std.specs.Prelude.{◌≡◌, length};
-ghost use Rattle.aes_s_box.specs.Box.{Box};
 ghost use Rattle.aes_state.specs.State.{sum, sub_word, input, output, sub_bytes, add_round_key};
 
-use aes_s_box::substitute;
+use aes_s_box::SBox;
 
 // The sum of two words, or of two rows of a state.
 pub fn sum(a: [u8; 4], b: [u8; 4]) -> [u8; 4]
     ensures { result ≡ sum a b }
 {
-    [a[0] ^ b[0], a[1] ^ b[1], a[2] ^ b[2], a[3] ^ b[3]]
+    std::array::from_fn(|i| a[i] ^ b[i])
 }
 
 // Four bytes, substituted: SubWord of section 5.2, and a row of SubBytes.
-pub fn sub_word(table: &[u8; 256], a: [u8; 4]) -> [u8; 4]
-    requires { Box table.now }
+pub fn sub_word(sbox: &SBox, a: [u8; 4]) -> [u8; 4]
     ensures { result ≡ sub_word a }
 {
-    [
-        substitute(table, a[0]),
-        substitute(table, a[1]),
-        substitute(table, a[2]),
-        substitute(table, a[3]),
-    ]
+    a.map(|b| sbox.substitute(b))
 }
 
 // Section 3.4: a block as a state, column by column.
@@ -44,10 +37,7 @@ pub fn input(block: &[u8]) -> [[u8; 4]; 4]
 pub fn output(s: [[u8; 4]; 4]) -> [u8; 16]
     ensures { result ≡ output s }
 {
-    let a = s[0];
-    let b = s[1];
-    let c = s[2];
-    let d = s[3];
+    let [a, b, c, d] = s;
     [
         a[0], b[0], c[0], d[0], a[1], b[1], c[1], d[1], a[2], b[2], c[2], d[2], a[3], b[3], c[3],
         d[3],
@@ -55,19 +45,16 @@ pub fn output(s: [[u8; 4]; 4]) -> [u8; 16]
 }
 
 // Section 5.1.1: SubBytes.
-pub fn sub_bytes(table: &[u8; 256], s: [[u8; 4]; 4]) -> [[u8; 4]; 4]
-    requires { Box table.now }
+pub fn sub_bytes(sbox: &SBox, s: [[u8; 4]; 4]) -> [[u8; 4]; 4]
     ensures { result ≡ sub_bytes s }
 {
-    let a = s[0];
-    let b = s[1];
-    let c = s[2];
-    let d = s[3];
+    // Kept: of `s.map(|row| sub_word(sbox, row))` the search didn't prove `returns`: what `map` ensures holds row by row, under the array's model.
+    let [a, b, c, d] = s;
     [
-        sub_word(table, a),
-        sub_word(table, b),
-        sub_word(table, c),
-        sub_word(table, d),
+        sub_word(sbox, a),
+        sub_word(sbox, b),
+        sub_word(sbox, c),
+        sub_word(sbox, d),
     ]
 }
 
@@ -75,13 +62,7 @@ pub fn sub_bytes(table: &[u8; 256], s: [[u8; 4]; 4]) -> [[u8; 4]; 4]
 pub fn add_round_key(s: [[u8; 4]; 4], k: [[u8; 4]; 4]) -> [[u8; 4]; 4]
     ensures { result ≡ add_round_key s k }
 {
-    let a = s[0];
-    let b = s[1];
-    let c = s[2];
-    let d = s[3];
-    let e = k[0];
-    let f = k[1];
-    let g = k[2];
-    let h = k[3];
+    let [a, b, c, d] = s;
+    let [e, f, g, h] = k;
     [sum(a, e), sum(b, f), sum(c, g), sum(d, h)]
 }

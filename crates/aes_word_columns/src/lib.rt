@@ -3,31 +3,29 @@
 
 ghost use Rattle.std.specs.Prelude.{◌≡◌};
 ghost use Rattle.octets.specs.Octets.{bytes};
-ghost use Rattle.aes_s_box.specs.Box.{Box};
 ghost use Rattle.aes_state.specs.State.{sum};
 ghost use Rattle.aes_mixing.specs.Mixing.{mixed_column};
-ghost use Rattle.aes_word_table.specs.Table.{Mixing};
 ghost use Rattle.aes_word_columns.specs.Column.{shifted_column};
 
+use aes_s_box::SBox;
 use aes_state::sub_word;
+use aes_word_table::MixingTable;
 use sha256_words::rotate_right;
 
 // A column of a round: its row 0 comes from a, its row 1 from b, and so on, as ShiftRows has them; k is the key's column.
 // One table serves four rows: what a byte of row r adds to its column is what one of row 0 adds, turned by r bytes.
-pub fn mix(table: &[u32; 256], a: u32, b: u32, c: u32, d: u32, k: u32) -> u32
-    requires { Mixing table.now }
+pub fn mix(mixing: &MixingTable, a: u32, b: u32, c: u32, d: u32, k: u32) -> u32
     ensures { bytes 4 result ≡ sum (mixed_column (shifted_column a b c d)) (bytes 4 k) }
 {
-    let p = table[((a >> 24) % 256) as usize];
-    let q = table[((b >> 16) % 256) as usize];
-    let r = table[((c >> 8) % 256) as usize];
-    let s = table[(d % 256) as usize];
+    let p = mixing.words[((a >> 24) % 256) as usize];
+    let q = mixing.words[((b >> 16) % 256) as usize];
+    let r = mixing.words[((c >> 8) % 256) as usize];
+    let s = mixing.words[(d % 256) as usize];
     p ^ rotate_right(q, 8) ^ rotate_right(r, 16) ^ rotate_right(s, 24) ^ k
 }
 
 // A column of the last round, which is not mixed.
-pub fn plain(table: &[u8; 256], a: u32, b: u32, c: u32, d: u32, k: u32) -> u32
-    requires { Box table.now }
+pub fn plain(sbox: &SBox, a: u32, b: u32, c: u32, d: u32, k: u32) -> u32
     ensures { bytes 4 result ≡ sum (shifted_column a b c d) (bytes 4 k) }
 {
     let shifted = [
@@ -36,6 +34,6 @@ pub fn plain(table: &[u8; 256], a: u32, b: u32, c: u32, d: u32, k: u32) -> u32
         ((c >> 8) % 256) as u8,
         (d % 256) as u8,
     ];
-    let column = octets::word(&sub_word(table, shifted), 0);
+    let column = octets::word(&sub_word(sbox, shifted), 0);
     column ^ k
 }

@@ -8,7 +8,7 @@ use Rattle.octets.specs.Octets.{Bytes, bytes, number}
 use Rattle.octets.proofs.Numbers.{number_lt, bytes_back}
 use Rattle.octets.proofs.Rule.{each, fits, filled}
 use Rattle.aes_s_box.specs.Box.{s_box}
-use Rattle.aes_s_box.proofs.SBox.{box_at, box_at-is}
+use Rattle.aes_s_box.proofs.Entries.{box_at, box_at-is}
 use Rattle.aes_s_box.proofs.Bytes.{s_box-lt, times-lt}
 use Rattle.aes_word_table.specs.Table.{spread, entry, Mixing}
 

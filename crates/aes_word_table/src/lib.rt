@@ -39,9 +39,16 @@ const MIXING: [u32; 256] = [
     0x824141c3, 0x299999b0, 0x5a2d2d77, 0x1e0f0f11, 0x7bb0b0cb, 0xa85454fc, 0x6dbbbbd6, 0x2c16163a,
 ];
 
+// A table of these words.
+#[derive(Drop)]
+pub struct MixingTable {
+    pub words: [u32; 256],
+    pub ghost is_mixing: { Mixing words },
+}
+
 // The whole table.
-pub fn table() -> [u32; 256]
-    ensures { Mixing result }
+pub fn table() -> MixingTable
+    ensures { Mixing result.words }
 {
-    MIXING
+    MixingTable { words: MIXING }
 }

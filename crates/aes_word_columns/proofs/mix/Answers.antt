@@ -15,7 +15,7 @@ pub returns : goal.returns
 unfolding bytes
 returns c =
     let a = c.args in
-    let at = c.requires.rule in
+    let at = c.args.mixing.now.is_mixing.rule in
     mixed-is _ _ _ _ a.k _ _ _ _
     (at (a.a / 2 ^ 24 % 256) (byte (a.a / 2 ^ 24)))
     (at (a.b / 2 ^ 16 % 256) (byte (a.b / 2 ^ 16)))

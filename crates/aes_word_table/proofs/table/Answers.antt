@@ -3,10 +3,10 @@ use mathlib.Core.Path.{refl}
 use Rattle.octets.specs.Octets.{number}
 use Rattle.aes_s_box.specs.Field.{x_times, sums}
 use Rattle.aes_s_box.specs.Box.{spelled}
-use Rattle.aes_s_box.proofs.SBox.{inverses}
+use Rattle.aes_s_box.proofs.Entries.{inverses}
 use Rattle.aes_word_table.proofs.Entries.{mixing}
 use Rattle.aes_word_table.proofs.table.Goals as goal
 
-pub returns : goal.returns
+pub invariant_of-result : goal.invariant_of-result
 unfolding inverses spelled number sums x_times
-returns c = mixing _ refl tt
+invariant_of-result c = record { is_mixing = mixing _ refl tt }
