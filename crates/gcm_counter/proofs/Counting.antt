@@ -1,14 +1,14 @@
 -- Counter mode, two blocks at a time: what is left of the text, under the counter blocks that are left, laid over the buffer as it is, gives what all gave at the start.
-use Rattle.std.proofs.Common.{◌≡◌, ℕ, suc, ◌+◌, ◌-◌, ◌/◌, ◌%◌, ◌^◌, ◌<◌, ◌≤◌, List, [], ◌∷◌, ◌++◌, length, take, drop, sym, refl, ap, ◌∙◌, ap₂, append_assoc, append-nil, arith, length-append, length-drop, drop_of_length-le, take-take, drop-drop, take_at, drop_at}
+use Rattle.std.proofs.Common.{◌≡◌, ℕ, suc, ◌+◌, ◌/◌, ◌%◌, ◌^◌, ◌<◌, ◌≤◌, List, [], ◌∷◌, ◌++◌, length, take, drop, sym, refl, ap, ◌∙◌, ap₂, append_assoc, append-nil, arith, length-append, length-drop, drop_of_length-le, take-take, drop-drop, take_at, drop_at, take_all, ⊎_elim, ◌⊎◌, inl, inr, eq-or-lt_of_le, min}
+use Rattle.std.proofs.lemmas.List.{nil_from_length}
 use Rattle.octets.specs.Octets.{bytes, number, part, xor, laid}
-use Rattle.octets.proofs.Parts.{part_length, drop-taken}
+use Rattle.octets.proofs.Parts.{drop-taken}
 use Rattle.octets.proofs.Numbers.{bytes-length, bytes-mod, number-bytes}
 use Rattle.octets.proofs.Xor.{xor-length, xor-append}
 use Rattle.octets.proofs.Buffers.{laid_more, laid_none, laid-two}
 use Rattle.aes_byte_rounds.specs.Cipher.{encrypted}
 use Rattle.aes_byte_rounds.proofs.Laws.{encrypted-length}
 use Rattle.gcm_counter.specs.Counter.{inc32, key_stream, gctr, j0}
-use Rattle.gcm_counter.proofs.Lists.{piece-take, piece-drop}
 
 -- ---- the counter blocks
 pub counter-block : (d b b' nonce : List ℕ) (n : ℕ) → length d ≡ 16 → length nonce ≡ 12 → b ≡ laid d 0 nonce → b' ≡ laid b 12 (bytes 4 n) → b' ≡ nonce ++ bytes 4 n
@@ -89,25 +89,36 @@ gctr-two schedule counter t =
     ∙ ap₂ (λ (a b : List ℕ). xor a one ++ xor b two) (take-take 16 32 t (omega arith)) (drop-taken t 16 16)))
 
 -- ---- a turn of the loop, and its end
-module _ (schedule counter source d d' : List ℕ) (at i end : ℕ) (fits : at + length source ≤ length d) (more : i < end) (inside : end ≤ length source)
-    (most : end ≤ i + 32) (short : end < i + 32 → end ≡ length source) where
-  pub crypt-turn : d' ≡ laid d (at + i) (xor (take (end - i) (drop i source)) (key_stream schedule 2 counter))
-      → laid d' (at + end) (gctr schedule (inc32 (inc32 counter)) (drop end source)) ≡ laid d (at + i) (gctr schedule counter (drop i source))
-  crypt-turn e =
-      let t : List ℕ = drop i source in
-      let mask : List ℕ = key_stream schedule 2 counter in
-      let piece : List ℕ = xor (take (end - i) t) mask in
-      let rest : List ℕ = gctr schedule (inc32 (inc32 counter)) (drop end source) in
-      let left : length t ≡ length source - i = length-drop i source in
-      let size : length piece ≡ end - i = xor-length (take (end - i) t) mask ∙ part_length source i (end - i) (omega arith) in
-      let place : at + end ≡ at + i + length piece = omega arith in
-      ap (λ (b : List ℕ). laid b (at + end) rest) e
-      ∙ laid_more d (at + i) piece rest (at + end) (omega arith) place
-      ∙ ap (laid d (at + i))
-      (ap₂ (λ (p q : List ℕ). xor p mask ++ gctr schedule (inc32 (inc32 counter)) q) (piece-take 32 source i end (omega arith) inside most short)
-      (piece-drop 32 source i end (omega arith) inside most short)
-      ∙ sym (gctr-two schedule counter t))
+-- the piece p in front of s, of 32 bytes or of all there are, and the rest t
+module _ (s p t : List ℕ) (e : s ≡ p ++ t) (size : length p ≡ min 32 (length s)) where
+  whole-or-last : (length p ≡ 32) ⊎ (t ≡ [])
+  whole-or-last =
+      let len = length-append p t in
+      let most : length p ≤ 32 = omega arith in
+      ⊎_elim (λ (q : length p ≡ 32). inl q) (λ (q : length p < 32). inr (nil_from_length t (omega (arith, ap length e)))) (eq-or-lt_of_le most)
 
-pub crypt-end : (schedule counter source d : List ℕ) (at i : ℕ) → length source ≤ i → laid d (at + i) (gctr schedule counter (drop i source)) ≡ d
-crypt-end schedule counter source d at i l =
-    ap (laid d (at + i)) (ap (gctr schedule counter) (drop_of_length-le source l) ∙ gctr-none schedule counter) ∙ laid_none d (at + i)
+  piece-front : take 32 s ≡ p
+  piece-front = ⊎_elim (λ (q : length p ≡ 32). ap (take 32) e ∙ take_at p t 32 q)
+      (λ (q : t ≡ []). let all : s ≡ p = e ∙ ap (λ (r : List ℕ). p ++ r) q ∙ append-nil p in take_all 32 s (omega (arith, ap length all)) ∙ all) whole-or-last
+
+  pub piece-rest : t ≡ drop 32 s
+  piece-rest = ⊎_elim (λ (q : length p ≡ 32). sym (ap (drop 32) e ∙ drop_at p t 32 q))
+      (λ (q : t ≡ []). let all : s ≡ p = e ∙ ap (λ (r : List ℕ). p ++ r) q ∙ append-nil p in let few : length s ≤ 32 = omega (arith, ap length all) in q ∙ sym (drop_of_length-le s few)) whole-or-last
+
+  module _ (schedule counter d d' : List ℕ) (at : ℕ) (fits : at ≤ length d) (written : d' ≡ laid d at (xor p (key_stream schedule 2 counter))) where
+    pub crypt-turn : laid d' (at + 32) (gctr schedule (inc32 (inc32 counter)) t) ≡ laid d at (gctr schedule counter s)
+    crypt-turn =
+        let mask : List ℕ = key_stream schedule 2 counter in
+        let next : List ℕ = inc32 (inc32 counter) in
+        ap (λ (b : List ℕ). laid b (at + 32) (gctr schedule next t)) written
+        ∙ ⊎_elim
+        (λ (q : length p ≡ 32). laid_more d at (xor p mask) (gctr schedule next t) (at + 32) fits (ap (λ (n : ℕ). at + n) (sym (xor-length p mask ∙ q))))
+        (λ (q : t ≡ []).
+        let none : gctr schedule next t ≡ [] = ap (gctr schedule next) q ∙ gctr-none schedule next in
+        ap (laid (laid d at (xor p mask)) (at + 32)) none
+        ∙ laid_none (laid d at (xor p mask)) (at + 32)
+        ∙ ap (laid d at) (sym (ap (λ (r : List ℕ). xor p mask ++ r) none ∙ append-nil (xor p mask)))) whole-or-last
+        ∙ ap (laid d at) (sym (gctr-two schedule counter s ∙ ap₂ (λ (a b : List ℕ). xor a mask ++ gctr schedule next b) piece-front (sym piece-rest)))
+
+pub crypt-end : (schedule counter s d : List ℕ) (at : ℕ) → length s ≡ 0 → laid d at (gctr schedule counter s) ≡ d
+crypt-end schedule counter s d at l = ap (laid d at) (ap (gctr schedule counter) (nil_from_length s l) ∙ gctr-none schedule counter) ∙ laid_none d at

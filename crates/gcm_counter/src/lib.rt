@@ -1,15 +1,14 @@
 // Counter mode (SP 800-38D sections 6.2 and 6.5), and the text under it (section 7.1, steps 2 and 3). Two blocks go at a time.
 #![tactic(auto)]
 
-ghost use Rattle.std.specs.Prelude.{◌≡◌, ◌+◌, ◌<◌, ◌≤◌, ◌++◌, length};
+ghost use Rattle.std.specs.Prelude.{◌≡◌, ◌+◌, ◌≤◌, ◌++◌, length};
 ghost use Rattle.octets.specs.Octets.{bytes, laid};
-ghost use Rattle.aes_s_box.specs.Box.{Box};
-ghost use Rattle.aes_word_table.specs.Table.{Mixing};
 ghost use Rattle.gcm_counter.specs.Counter.{j0 as first, key_stream, stream_by};
 
+use aes_word_rounds::Tables;
+
 // The counter block of a number: its last four bytes, behind the nonce.
-fn counter_block(nonce: &[u8], count: u32) -> [u8; 16]
-    requires { length nonce.now ≡ 12 }
+fn counter_block(nonce: &[u8; 12], count: u32) -> [u8; 16]
     ensures { result ≡ nonce.now ++ bytes 4 count }
 {
     let mut block = [0u8; 16];
@@ -26,30 +25,12 @@ pub fn j0(nonce: &[u8; 12]) -> [u8; 16]
 }
 
 // Two blocks of the key stream (section 6.5), from a number on.
-fn masks(
-    mixing: &[u32; 256],
-    sbox: &[u8; 256],
-    schedule: &[u8; 176],
-    nonce: &[u8],
-    count: u32,
-) -> [u8; 32]
-    requires { Mixing mixing.now × Box sbox.now × (length nonce.now ≡ 12) }
+fn masks(tables: &Tables, schedule: &[u8; 176], nonce: &[u8; 12], count: u32) -> [u8; 32]
     ensures { result ≡ key_stream schedule.now 2 (nonce.now ++ bytes 4 count) }
 {
     let one = counter_block(nonce, count);
-    let two = counter_block(nonce, std::num::wrapping_add_u32(count, 1));
-    aes_word_rounds::encrypt_two(mixing, sbox, schedule, &one, &two)
-}
-
-// The end of the two blocks that start at `at`, or of the bytes.
-fn piece_end(at: usize, len: usize) -> usize
-    requires { at < len }
-    ensures { (at < result) × (result ≤ len) × (result ≤ at + 32) × (result < at + 32 → result ≡ len) }
-{
-    if len - at < 32 {
-        return len;
-    }
-    at + 32
+    let two = counter_block(nonce, count.wrapping_add(1));
+    tables.encrypt_two(schedule, &one, &two)
 }
 
 // The source in counter mode, laid over a buffer from `at` on (section 7.1, step 3): as well a plaintext's cipher as a cipher's plaintext.
@@ -57,16 +38,11 @@ pub fn crypt(schedule: &[u8; 176], nonce: &[u8; 12], source: &[u8], buffer: &mut
     requires { at + length source.now ≤ length buffer.old }
     ensures { buffer.new ≡ laid buffer.old at (stream_by schedule.now nonce.now source.now) }
 {
-    let mixing = aes_word_table::table();
-    let sbox = aes_s_box::table();
-    let front = &nonce[..];
+    let tables = Tables::new();
     let mut count: u32 = 2;
-    let mut i: usize = 0;
-    while i < source.len() {
-        let end = piece_end(i, source.len());
-        let mask = masks(&mixing, &sbox, schedule, front, count);
-        octets::copy_masked(buffer, at + i, &source[i..end], &mask);
-        count = std::num::wrapping_add_u32(count, 2);
-        i = end;
+    for (k, piece) in source.chunks(32).enumerate() {
+        let mask = masks(&tables, schedule, nonce, count);
+        octets::copy_masked(buffer, at + 32 * k, piece, &mask);
+        count = count.wrapping_add(2);
     }
 }

@@ -6,7 +6,7 @@ ghost use Rattle.std.specs.Int.Bits.{bit_xor};
 ghost use Rattle.gcm_field.specs.Field.{next, num, nexts};
 
 // A block of sixteen bytes: `hi` spells the first eight, the first byte highest.
-#[derive(Clone, Copy)]
+#[derive(Clone, Copy, Debug, PartialEq, Eq)]
 pub struct Block {
     pub hi: u64,
     pub lo: u64,

@@ -9,6 +9,7 @@ use lib.Pow.{shr-shr}
 use Rattle.octets.proofs.Xor.{xor_assoc}
 use Rattle.gcm_field.specs.Field.{steps, ◌•◌, nexts}
 use Rattle.gcm_product.specs.Runs.{runs}
+use Rattle.gcm_field.specs.declared.Block.{Block}
 use Rattle.gcm_table.specs.Table.{entry_of, Filled}
 use Rattle.gcm_field.proofs.Linear.{xor-swap, nexts-xor, nexts-zero, nexts-add, steps-sum, steps-add, steps-above, steps_low}
 
@@ -69,14 +70,14 @@ module _ (h hi lo : ℕ) where
       ∙ sym (steps-add 64 64 x 0 h)
 
 -- the entry for the four low bits of y in the run that starts at entry e
-run-entry : (h : ℕ) (table : List ℕ) (e y b : ℕ) → Filled h table 128 → e % 16 ≡ 0 → e < 128 → b ≡ entry_of table (e + y % 16) → b ≡ steps 4 y 0 (nexts e h)
+run-entry : (h : ℕ) (table : List Block) (e y b : ℕ) → Filled h table 128 → e % 16 ≡ 0 → e < 128 → b ≡ entry_of table (e + y % 16) → b ≡ steps 4 y 0 (nexts e h)
 run-entry h table e y b f z l eb =
     let inside : e + y % 16 < 128 = omega arith in
     let bits : (e + y % 16) % 16 ≡ y % 16 = omega arith in
     let place : (e + y % 16) / 16 * 16 ≡ e = omega arith in
     eb ∙ f (e + y % 16) inside ∙ ap₂ (λ (i j : ℕ). steps 4 i 0 (nexts j h)) bits place ∙ steps_low 4 y 0 (nexts e h)
 
-module _ (h : ℕ) (table : List ℕ) (e w a b c d : ℕ) (f : Filled h table 128) (z : e % 16 ≡ 0) (l : e ≤ 64) where
+module _ (h : ℕ) (table : List Block) (e w a b c d : ℕ) (f : Filled h table 128) (z : e % 16 ≡ 0) (l : e ≤ 64) where
   -- the four entries' sum
   pub four_runs : a ≡ entry_of table (e + w / 2 ^ 48 % 16) → b ≡ entry_of table (e + 16 + w / 2 ^ 32 % 16) → c ≡ entry_of table (e + 32 + w / 2 ^ 16 % 16)
       → d ≡ entry_of table (e + 48 + w / 2 ^ 0 % 16) → bit_xor (bit_xor a b) (bit_xor c d) ≡ runs 4 4 w (nexts e h)

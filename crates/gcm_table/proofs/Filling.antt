@@ -1,41 +1,33 @@
 -- A table is filled entry by entry: those of a run are sums of the multiples by 1, 2, 4 and 8.
-use Prim.Native.Nat.{ℕ, ◌+◌, ◌*◌, ◌/◌, ◌%◌, ◌^◌, ◌<◌, ◌≤◌}
+use Prim.Native.Nat.{ℕ, ◌+◌, ◌*◌, ◌/◌, ◌%◌, ◌<◌, ◌≤◌}
 use mathlib.Core.Path.{◌≡◌, sym, ap, ap₂, ◌∙◌}
 use mathlib.Core.List.{List}
 use native.Mathlib.Nat.{zero-mul, one-mul}
 use native.Mathlib.Omega.{arith}
 use borrow.Author.Count.{below_more}
 use lib.Bits.{bit_xor, xor_zero_r}
-use lib.ListN.{length, get_or, set, length-set}
+use lib.ListN.{length, set}
 use lib.Seq.{get_or-set_same, get_or-set_other}
-use Rattle.gcm_field.specs.Field.{bit, next, steps, nexts}
-use Rattle.gcm_table.specs.Table.{entry_of, Right, Filled, Doubled, key_of, Table}
+use Rattle.gcm_field.specs.Field.{bit, next, steps, nexts, num}
+use Rattle.gcm_field.specs.declared.Block.{Block}
+use Rattle.gcm_table.specs.Table.{zeros, entry_of, Right, Filled, Doubled, key_of, Table}
 use Rattle.gcm_field.proofs.Linear.{nexts-none, steps-xor}
 
 -- a table with entry e written
-abbrev pub written : List ℕ → ℕ → ℕ → ℕ → List ℕ
-written table e hi lo = set (set table (2 * e) hi) (2 * e + 1) lo
+module _ (table : List Block) (e : ℕ) (b : Block) (len : length table ≡ 128) (l : e < 128) where
+  here : entry_of (set table e b) e ≡ num b
+  here = ap num (get_or-set_same table e b zeros (omega arith))
 
-module _ (table : List ℕ) (e hi lo : ℕ) (len : length table ≡ 256) (l : e < 128) where
-  here : entry_of (written table e hi lo) e ≡ hi * 2 ^ 64 + lo
-  here =
-      ap₂ (λ (x y : ℕ). x * 2 ^ 64 + y)
-      (get_or-set_other (set table (2 * e) hi) (2 * e + 1) (2 * e) lo 0 (λ q. omega arith) ∙ get_or-set_same table (2 * e) hi 0 (omega arith))
-      (get_or-set_same (set table (2 * e) hi) (2 * e + 1) lo 0 (rw (length-set table (2 * e) hi) (omega arith)))
+  kept : (j : ℕ) → j < e → entry_of (set table e b) j ≡ entry_of table j
+  kept j k = ap num (get_or-set_other table e j b zeros (λ r. omega arith))
 
-  kept : (j : ℕ) → j < e → entry_of (written table e hi lo) j ≡ entry_of table j
-  kept j k =
-      let same : (i : ℕ) → i < 2 * e → get_or (written table e hi lo) i 0 ≡ get_or table i 0 =
-      λ i q. get_or-set_other (set table (2 * e) hi) (2 * e + 1) i lo 0 (λ r. omega arith) ∙ get_or-set_other table (2 * e) i hi 0 (λ r. omega arith) in
-      ap₂ (λ (x y : ℕ). x * 2 ^ 64 + y) (same (2 * j) (omega arith)) (same (2 * j + 1) (omega arith))
-
-  pub filled_more : (h : ℕ) → hi * 2 ^ 64 + lo ≡ steps 4 (e % 16) 0 (nexts (e / 16 * 16) h) → Filled h table e → Filled h (written table e hi lo) (e + 1)
-  filled_more h q f = below_more (Right h (written table e hi lo)) e (λ j k. kept j k ∙ f j k) (here ∙ q)
+  pub filled_more : (h : ℕ) → num b ≡ steps 4 (e % 16) 0 (nexts (e / 16 * 16) h) → Filled h table e → Filled h (set table e b) (e + 1)
+  filled_more h q f = below_more (Right h (set table e b)) e (λ j k. kept j k ∙ f j k) (here ∙ q)
 
 -- a turn of the loop that doubles a run: the entry of i + k is the sum of those of i and k, which have no bit in common
-module _ (h : ℕ) (table table' : List ℕ) (e i k w hi lo : ℕ) (len : length table ≡ 256) (z : e % 16 ≡ 0) (l : e < 128) (s : i ≤ 8) (less : k < i) (x : bit_xor i k ≡ i + k) where
-  sum-entry : hi * 2 ^ 64 + lo ≡ bit_xor w (entry_of table (e + k)) → w ≡ steps 4 i 0 (nexts e h) → Filled h table (e + i + k)
-      → hi * 2 ^ 64 + lo ≡ steps 4 ((e + i + k) % 16) 0 (nexts ((e + i + k) / 16 * 16) h)
+module _ (h : ℕ) (table table' : List Block) (e i k w : ℕ) (b : Block) (len : length table ≡ 128) (z : e % 16 ≡ 0) (l : e < 128) (s : i ≤ 8) (less : k < i) (x : bit_xor i k ≡ i + k) where
+  sum-entry : num b ≡ bit_xor w (entry_of table (e + k)) → w ≡ steps 4 i 0 (nexts e h) → Filled h table (e + i + k)
+      → num b ≡ steps 4 ((e + i + k) % 16) 0 (nexts ((e + i + k) / 16 * 16) h)
   sum-entry eb ew f =
       let bits : (e + k) % 16 ≡ k = omega arith in
       let place : (e + k) / 16 * 16 ≡ e = omega arith in
@@ -48,11 +40,11 @@ module _ (h : ℕ) (table table' : List ℕ) (e i k w hi lo : ℕ) (len : length
       ∙ ap (λ (m : ℕ). steps 4 m 0 v) x
       ∙ ap₂ (λ (m n : ℕ). steps 4 m 0 (nexts n h)) bits' place'
 
-  pub double-turn : table' ≡ written table (e + i + k) hi lo → hi * 2 ^ 64 + lo ≡ bit_xor w (entry_of table (e + k)) → w ≡ steps 4 i 0 (nexts e h)
+  pub double-turn : table' ≡ set table (e + i + k) b → num b ≡ bit_xor w (entry_of table (e + k)) → w ≡ steps 4 i 0 (nexts e h)
       → Filled h table (e + i + k) → Filled h table' (e + i + (k + 1))
   double-turn et eb ew f =
       let on : e + i + (k + 1) ≡ e + i + k + 1 = omega arith in
-      rw (et, on) (filled_more table (e + i + k) hi lo len (omega arith) h (sum-entry eb ew f) f)
+      rw (et, on) (filled_more table (e + i + k) b len (omega arith) h (sum-entry eb ew f) f)
 
 -- the multiples by 0, 1, 2, 4 and 8
 pub times-0 : (v : ℕ) → steps 4 0 0 v ≡ 0
@@ -76,11 +68,11 @@ unfolding steps bit
 times_8 v = simp (one-mul, zero-mul, xor_zero_r)
 
 -- the sixteen entries of a run: that of 0, and four times as many again
-pub run-filled : (h : ℕ) (t t0 t1 t2 t4 t8 : List ℕ) (e v v1 v2 v3 : ℕ) → length t ≡ 256 → e % 16 ≡ 0 → e < 128 → v1 ≡ next v → v2 ≡ next v1 → v3 ≡ next v2
-    → t0 ≡ written t e 0 0 → Doubled t0 t1 e 1 v3 → Doubled t1 t2 e 2 v2 → Doubled t2 t4 e 4 v1 → Doubled t4 t8 e 8 v → v ≡ nexts e h → Filled h t e → Filled h t8 (e + 16)
+pub run-filled : (h : ℕ) (t t0 t1 t2 t4 t8 : List Block) (e v v1 v2 v3 : ℕ) → length t ≡ 128 → e % 16 ≡ 0 → e < 128 → v1 ≡ next v → v2 ≡ next v1 → v3 ≡ next v2
+    → t0 ≡ set t e zeros → Doubled t0 t1 e 1 v3 → Doubled t1 t2 e 2 v2 → Doubled t2 t4 e 4 v1 → Doubled t4 t8 e 8 v → v ≡ nexts e h → Filled h t e → Filled h t8 (e + 16)
 run-filled h t t0 t1 t2 t4 t8 e v v1 v2 v3 len z l e1 e2 e3 et d1 d2 d4 d8 ev f =
-    let zero-entry : 0 * 2 ^ 64 + 0 ≡ steps 4 (e % 16) 0 (nexts (e / 16 * 16) h) = rw z (sym (times-0 (nexts (e / 16 * 16) h))) in
-    let f0 : Filled h t0 (e + 1) = rw et (filled_more t e 0 0 len l h zero-entry f) in
+    let zero-entry : num zeros ≡ steps 4 (e % 16) 0 (nexts (e / 16 * 16) h) = rw z (sym (times-0 (nexts (e / 16 * 16) h))) in
+    let f0 : Filled h t0 (e + 1) = rw et (filled_more t e zeros len l h zero-entry f) in
     let two : v2 ≡ next (next v) = e2 ∙ ap next e1 in
     let f1 = d1 h (e3 ∙ ap next two ∙ ap (λ (x : ℕ). next (next (next x))) ev ∙ sym (times-1 (nexts e h))) f0 in
     let f2 = d2 h (two ∙ ap (λ (x : ℕ). next (next x)) ev ∙ sym (times-2 (nexts e h))) (λ j k. f1 j (omega arith)) in
@@ -89,7 +81,7 @@ run-filled h t t0 t1 t2 t4 t8 e v v1 v2 v3 len z l e1 e2 e3 et d1 d2 d4 d8 ev f 
     λ j k. f8 j (omega arith)
 
 -- the whole table
-module _ (h : ℕ) (table : List ℕ) (f : Filled h table 128) where
+module _ (h : ℕ) (table : List Block) (f : Filled h table 128) where
   pub filled-key : key_of table ≡ h
   filled-key = f 8 (omega arith) ∙ ap (steps 4 8 0) (nexts-none h) ∙ times_8 h
 

@@ -1,12 +1,12 @@
 -- The product a bit at a time over two words, and GHASH a block at a time.
-use Prim.Native.Nat.{ℕ, zero, suc, ◌+◌, ◌-◌, ◌*◌, ◌/◌, ◌%◌, ◌^◌, ◌≤◌, ◌<◌}
-use mathlib.Core.Path.{◌≡◌, sym, ap, ap₂, ◌∙◌}
-use mathlib.Core.List.{List}
+use Prim.Native.Nat.{ℕ, zero, suc, ◌+◌, ◌-◌, ◌*◌, ◌/◌, ◌%◌, ◌^◌, ◌<◌}
+use mathlib.Core.Path.{◌≡◌, refl, sym, ap, ap₂, ◌∙◌}
+use mathlib.Core.List.{List, ◌++◌}
 use native.Mathlib.Nat.{zero-mul, one-mul}
 use native.Mathlib.Omega.{arith}
 use lib.Bits.{bit_xor}
-use lib.ListN.{length, take, drop}
-use lib.Seq.{drop-drop}
+use lib.ListN.{length, drop, length-append}
+use lib.Seq.{take_at, drop_at}
 use Rattle.octets.specs.Octets.{number}
 use Rattle.gcm_field.specs.Field.{bit, next, steps, ◌•◌, nexts}
 use Rattle.gcm_hash.specs.Hash.{blocks, chained, ghash}
@@ -44,25 +44,27 @@ both_words hi lo h l =
     ∙ sym (steps-add 64 64 x 0 h)
 
 -- ---- GHASH
--- what is left to chain, at a place
-abbrev pub on_from : ℕ → ℕ → List ℕ → ℕ → ℕ
-on_from h y s at = chained h y (blocks ((length s - at) / 16) (drop at s))
+-- what is left to chain
+abbrev pub on_from : ℕ → ℕ → List ℕ → ℕ
+on_from h y s = chained h y (blocks (length s / 16) s)
 
-pub hash-start : (h : ℕ) (s : List ℕ) → on_from h 0 s 0 ≡ ghash h s
+pub hash-start : (h : ℕ) (s : List ℕ) → on_from h 0 s ≡ ghash h s
 unfolding ghash
-hash-start h s =
-    let all : length s - 0 ≡ length s = omega arith in
-    ap (λ (n : ℕ). chained h 0 (blocks (n / 16) s)) all
+hash-start h s = refl
 
-pub hash-turn : (h y y' : ℕ) (s : List ℕ) (at : ℕ) → 16 ≤ length s - at → y' ≡ bit_xor y (number (take 16 (drop at s))) • h → on_from h y' s (at + 16) ≡ on_from h y s at
+-- a turn: the block b stands in front of what is left
+pub hash-turn : (h y y' : ℕ) (s b t : List ℕ) → s ≡ b ++ t → length b ≡ 16 → y' ≡ bit_xor y (number b) • h → on_from h y' t ≡ on_from h y s
 unfolding chained blocks
-hash-turn h y y' s at l e =
-    let n : ℕ = (length s - (at + 16)) / 16 in
-    let more : suc n ≡ (length s - at) / 16 = omega arith in
-    ap₂ (λ (x : ℕ) (r : List ℕ). chained h x (blocks n r)) e (sym (drop-drop 16 at s)) ∙ ap (λ (m : ℕ). chained h y (blocks m (drop at s))) more
+hash-turn h y y' s b t es size e =
+    let len = length-append b t in
+    let more : suc (length t / 16) ≡ length (b ++ t) / 16 = omega arith in
+    ap₂ (λ (x : ℕ) (r : List ℕ). chained h x (blocks (length t / 16) r)) e (sym (drop_at b t 16 size))
+    ∙ ap (λ (x : List ℕ). chained h (bit_xor y (number x) • h) (blocks (length t / 16) (drop 16 (b ++ t)))) (sym (take_at b t 16 size))
+    ∙ ap (λ (m : ℕ). chained h y (blocks m (b ++ t))) more
+    ∙ ap (on_from h y) (sym es)
 
-pub hash-end : (h y : ℕ) (s : List ℕ) (at : ℕ) → length s - at < 16 → on_from h y s at ≡ y
+pub hash-end : (h y : ℕ) (s : List ℕ) → length s < 16 → on_from h y s ≡ y
 unfolding chained blocks
-hash-end h y s at l =
-    let none : (length s - at) / 16 ≡ 0 = omega arith in
-    ap (λ (m : ℕ). chained h y (blocks m (drop at s))) none
+hash-end h y s l =
+    let none : length s / 16 ≡ 0 = omega arith in
+    ap (λ (m : ℕ). chained h y (blocks m s)) none

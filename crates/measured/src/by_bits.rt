@@ -29,9 +29,7 @@ fn through(w: u64, earlier: Walk) -> Walk
 {
     let mut z = earlier.z;
     let mut v = earlier.v;
-    let mut n: u64 = 64;
-    while 0 < n {
-        n -= 1;
+    for n in (0..64u64).rev() {
         z = gcm_field::add(z, chosen((w >> n) % 2, v));
         v = gcm_field::shifted(v);
     }
@@ -47,8 +45,7 @@ fn times(x: Block, h: Block) -> Block
         v: h,
     };
     let last = through(x.lo, through(x.hi, first));
-    let z = last.z;
-    z
+    last.z
 }
 
 // GHASH of the whole blocks of some bytes (section 6.4).
@@ -56,10 +53,8 @@ pub fn hash(h: Block, source: &[u8]) -> Block
     ensures { num result ≡ ghash (num h) source.now }
 {
     let mut y = Block { hi: 0, lo: 0 };
-    let mut at: usize = 0;
-    while 16 <= source.len() - at {
-        y = times(gcm_field::add(y, gcm_hash::load_block(source, at)), h);
-        at += 16;
+    for block in source.chunks_exact(16) {
+        y = times(gcm_field::add(y, gcm_hash::load_block(block, 0)), h);
     }
     y
 }

@@ -5,12 +5,13 @@ pub mod by_bits;
 
 ghost use Rattle.std.specs.Prelude.{◌≡◌, ◌/◌, length};
 ghost use Rattle.octets.specs.Octets.{bytes, number, placed};
-ghost use Rattle.aes_s_box.specs.Box.{Box};
 ghost use Rattle.aes_schedule.specs.Expansion.{expansion};
 ghost use Rattle.aes_byte_rounds.specs.Cipher.{encrypted};
-ghost use Rattle.aes_word_table.specs.Table.{Mixing};
 ghost use Rattle.gcm_hash.specs.Hash.{ghash};
 ghost use Rattle.measured.specs.Measured.{enciphered, streaming, sealing, answer};
+
+use aes_word_rounds::Tables;
+use gcm_hash::Ghash;
 
 // The most bytes that a text or its associated data may have here.
 const MOST: usize = 65536;
@@ -24,20 +25,14 @@ pub extern "C" fn dw_measure_expand_key(key: &[u8; 16], schedule: &mut [u8; 176]
 }
 
 // A block under a key schedule, by the engine on words or by the one on bytes.
-fn encrypt_by(
-    words: bool,
-    mixing: &[u32; 256],
-    sbox: &[u8; 256],
-    schedule: &[u8; 176],
-    block: &[u8; 16],
-) -> [u8; 16]
-    requires { Mixing mixing.now × Box sbox.now }
+// Kept: the C interface, `words` of dw_measure_blocks, says which; a closure for each engine would need the choice as well.
+fn encrypt_by(words: bool, tables: &Tables, schedule: &[u8; 176], block: &[u8; 16]) -> [u8; 16]
     ensures { result ≡ encrypted schedule.now block.now }
 {
     if words {
-        return aes_word_rounds::encrypt_with(mixing, sbox, schedule, block);
+        return tables.encrypt(schedule, block);
     }
-    aes_byte_rounds::encrypt_with(sbox, schedule, block)
+    aes_byte_rounds::encrypt_with(&tables.sbox, schedule, block)
 }
 
 // Every whole block of a buffer, enciphered where it stands: on words, or on bytes where `words` is 0.
@@ -45,15 +40,13 @@ fn encrypt_by(
 pub extern "C" fn dw_measure_blocks(words: u32, schedule: &[u8; 176], buffer: &mut [u8])
     ensures { buffer.new ≡ enciphered schedule.now (length buffer.old / 16) buffer.old }
 {
-    let mixing = aes_word_table::table();
-    let sbox = aes_s_box::table();
-    let mut at: usize = 0;
-    while 16 <= buffer.len() - at {
+    let tables = Tables::new();
+    for k in 0..buffer.len() / 16 {
+        let at = 16 * k;
         let mut block = [0u8; 16];
         octets::copy(&mut block, 0, &buffer[at..at + 16]);
-        let cipher = encrypt_by(words != 0, &mixing, &sbox, schedule, &block);
+        let cipher = encrypt_by(words != 0, &tables, schedule, &block);
         octets::copy(buffer, at, &cipher);
-        at += 16;
     }
 }
 
@@ -82,9 +75,8 @@ pub extern "C" fn dw_measure_ghash(key: &[u8; 16], source: &[u8], out: &mut [u8;
 {
     let table = gcm_table::make_table(gcm_hash::load_block(key, 0));
     let whole = source.len() / 16 * 16;
-    let g = gcm_hash::absorb(gcm_hash::begin(), &table, &source[0..whole]);
-    let y = g.y;
-    *out = gcm::spelled(y);
+    let g = Ghash::begin().absorb(&table, &source[..whole]);
+    *out = gcm::spelled(g.y);
 }
 
 // The same, bit by bit.

@@ -9,12 +9,12 @@ use Rattle.gcm_product.proofs.four.Goals as goal
 pub returns : goal.returns
 returns c =
     let a = c.args in
-    let table = a.table.now in
+    let table = a.table.now.entries in
     let at : ℕ → ℕ = entry_of table in
-    let one = c.entry-a.ensures ∙ ap (λ (k : ℕ). at (a.e + k)) c.nibble.ensures in
-    let two = c.entry-b.ensures ∙ ap (λ (k : ℕ). at (a.e + 16 + k)) c.nibble-2.ensures in
-    let three = c.entry-c.ensures ∙ ap (λ (k : ℕ). at (a.e + 32 + k)) c.nibble-3.ensures in
-    let four = c.entry-d.ensures ∙ ap (λ (k : ℕ). at (a.e + 48 + k)) c.nibble-4.ensures in
+    let one = ap (λ (k : ℕ). at (a.e + k)) c.nibble.ensures in
+    let two = ap (λ (k : ℕ). at (a.e + 16 + k)) c.nibble-2.ensures in
+    let three = ap (λ (k : ℕ). at (a.e + 32 + k)) c.nibble-3.ensures in
+    let four = ap (λ (k : ℕ). at (a.e + 48 + k)) c.nibble-4.ensures in
     c.add-3.ensures
     ∙ ap₂ bit_xor c.add.ensures c.add-2.ensures
-    ∙ four_runs (key_of table) table a.e a.w _ _ _ _ c.requires.0.rule c.requires.1 c.requires.2 one two three four
+    ∙ four_runs (key_of table) table a.e a.w _ _ _ _ a.table.now.is_table.rule c.requires.0 c.requires.1 one two three four

@@ -1,34 +1,24 @@
-use mathlib.Core.Path.{refl, sym, ap, ◌∙◌}
+use Prim.Native.Nat.{◌+◌, ◌-◌, ◌*◌, ◌≤◌, ◌<◌}
+use mathlib.Core.Path.{◌≡◌, sym, ap, ◌∙◌}
 use native.Mathlib.Omega.{arith}
 use borrow.Author.Rules.{rules}
-use lib.ListN.{length-drop}
+use lib.ListN.{length}
 use Rattle.octets.specs.Octets.{laid}
-use Rattle.measured.proofs.Blocks.{blocks_start, block_read, blocks-turn, blocks_end}
+use Rattle.measured.proofs.Blocks.{onward, block_read, blocks-turn, blocks_end}
 use Rattle.measured.proofs.dw_measure_blocks.Goals as goal
 
-pub loop-buffer-init : goal.loop-buffer-init
-loop-buffer-init c =
-    let a = c.args in
-    (search rules, refl, blocks_start a.schedule.now a.buffer.now)
-
-pub copy-requires : goal.copy-requires
-copy-requires c =
-    let l = c.loop-buffer in
-    omega (arith, length-drop l.at l.buffer)
-
-pub loop-buffer-preserved : goal.loop-buffer-preserved
-loop-buffer-preserved c =
-    let l = c.loop-buffer in
-    let a = c.args in
-    let w = a.schedule.now in
-    let block = block_read l.buffer _ l.at (omega arith) c.copy.ensures in
-    let written = c.copy-in-loop-buffer.ensures ∙ ap (laid l.buffer l.at) c.encrypt_by-cipher.ensures in
-    (search rules, search rules, blocks-turn w l.buffer _ _ l.at (omega arith) block written ∙ l.invariant.2)
-
-pub shape_of-buffer : goal.shape_of-buffer
-shape_of-buffer c = c.loop-buffer.invariant.1
+pub loop-k-preserved : goal.loop-k-preserved
+loop-k-preserved c =
+    let l = c.loop-k in
+    let w = c.args.schedule.now in
+    let inside : 16 * l.k + 16 ≤ length l.buffer = omega (arith, c.loop-k-test.true, l.invariant.0) in
+    let on : 16 * (l.k + 1) ≡ 16 * l.k + 16 = omega arith in
+    let block = block_read l.buffer _ (16 * l.k) inside c.copy.ensures in
+    let written = c.copy-in-loop-k.ensures ∙ ap (laid l.buffer (16 * l.k)) c.encrypt_by-cipher.ensures in
+    (search rules, ap (onward w c.copy-in-loop-k.new.buffer) on ∙ blocks-turn w l.buffer _ _ (16 * l.k) inside block written ∙ l.invariant.1)
 
 pub returns : goal.returns
 returns c =
-    let l = c.loop-buffer in
-    sym (blocks_end _ l.buffer l.at (omega arith)) ∙ l.invariant.2
+    let l = c.loop-k in
+    let few : length l.buffer - 16 * l.k < 16 = omega (arith, c.loop-k-test.false, l.invariant.0) in
+    sym (blocks_end _ l.buffer (16 * l.k) few) ∙ l.invariant.1

@@ -2,7 +2,7 @@
 use mathlib.Core.Path.{ap, ◌∙◌}
 use borrow.Author.Rules.{rules}
 use native.Mathlib.Omega.{arith}
-use Prim.Native.Nat.{◌-◌, ◌*◌, ◌/◌}
+use Prim.Native.Nat.{◌*◌, ◌/◌}
 use lib.ListN.{length}
 use lib.Seq.{take_all}
 use Rattle.octets.specs.Octets.{bytes, number}
@@ -18,5 +18,5 @@ returns c =
     let number_of_lem = c.load_block.ensures ∙ ap number (take_all 16 key (search rules)) in
     c.spelled.ensures
     ∙ ap (bytes 16)
-    (stream-is (number key) (key_of c.make_table-table.result) (state c.begin.result) (state c.absorb-g.result) a.source.now (length a.source.now / 16 * 16 - 0)
-    (λ i. (c.type_inv.source i).fits) (omega arith) (c.make_table-table.ensures.1 ∙ number_of_lem) c.begin.ensures.0 c.absorb-g.ensures.0)
+    (stream-is (number key) (key_of c.make_table-table.result.entries) (state c.begin.result) (state c.absorb-g.result) a.source.now (length a.source.now / 16 * 16)
+    (λ i. (c.type_inv.source i).fits) (omega arith) (c.make_table-table.ensures ∙ number_of_lem) c.begin.ensures c.absorb-g.ensures)
