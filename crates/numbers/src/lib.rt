@@ -5,9 +5,9 @@
 pub const NUMBERS: u64 = 1 << 62;
 
 // A number as it stands on the wire, in one to four bytes.
-#[derive(Clone, Copy)]
+#[derive(Clone, Copy, Debug, PartialEq, Eq)]
 pub struct TruncatedPn(pub u64);
 
 // A number as the sender counts it and the receiver recovers it.
-#[derive(Clone, Copy)]
+#[derive(Clone, Copy, Debug, PartialEq, Eq, PartialOrd, Ord)]
 pub struct FullPn(pub u64);

@@ -7,14 +7,7 @@ ghost use Rattle.numbers_recovery.specs.Recovery.{decoded};
 ghost use Rattle.numbers_recovery.specs.Answers.{Recover};
 
 use numbers::{FullPn, NUMBERS, TruncatedPn};
-use octets::refusal;
-
-// A number made full again.
-#[derive(Clone, Copy)]
-pub enum Recovered {
-    Refused(u8),
-    Full(FullPn),
-}
+use octets::refusal::Refusal;
 
 // Appendix A.3: the number nearest the expected one that ends in the short one, kept within 0 and 2^62.
 fn decode(expected: u64, truncated: u64, length: usize) -> u64
@@ -34,24 +27,24 @@ fn decode(expected: u64, truncated: u64, length: usize) -> u64
 }
 
 // Appendix A.3: the full number that a short one of `length` bytes stands for, where `expected` is one above the greatest opened.
-pub fn recover(expected: u64, truncated: TruncatedPn, length: usize) -> Recovered
+pub fn recover(expected: u64, truncated: TruncatedPn, length: usize) -> Result<FullPn, Refusal>
     ensures { Recover expected truncated length result }
 {
     if NUMBERS < expected {
-        return Recovered::Refused(refusal::RANGE);
+        return Err(Refusal::Range);
     }
     if length < 1 {
-        return Recovered::Refused(refusal::LENGTH);
+        return Err(Refusal::Length);
     }
     if 4 < length {
-        return Recovered::Refused(refusal::LENGTH);
+        return Err(Refusal::Length);
     }
     if octets::power(8 * length) <= truncated.0 {
-        return Recovered::Refused(refusal::LENGTH);
+        return Err(Refusal::Length);
     }
     let full = decode(expected, truncated.0, length);
     if NUMBERS <= full {
-        return Recovered::Refused(refusal::RANGE);
+        return Err(Refusal::Range);
     }
-    Recovered::Full(FullPn(full))
+    Ok(FullPn(full))
 }

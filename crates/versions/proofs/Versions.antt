@@ -18,6 +18,15 @@ module _ (v : ℕ) where
   unfolding version version1
   version-other h = rw (ne_eqb v 1 h)
 
+  -- an entry of the version's own row
+  pub entry : {A : Type 0} (of : Version → A) → of (version v) ≡ cond (eqb v 1) (of version1) (of draft2)
+  unfolding version version1
+  entry of = by (eqb v 1)
+    where
+      by : (b : Bool) → of (cond b version1 draft2) ≡ cond b (of version1) (of draft2)
+      by true = refl
+      by false = refl
+
   pub known-one : v ≡ 1 → known v ≡ true
   unfolding known version1
   known-one h = rw (eq-eqb v 1 h)

@@ -1,8 +1,8 @@
 -- What looking for a type's level answers, as the outcome that it stands for.
-use Rattle.std.specs.Prelude.{ℕ}
-use Rattle.octets.specs.Outcome.{Outcome, refused, given}
-use Rattle.versions.specs.declared.Leveled.{Leveled}
+use Rattle.std.specs.Prelude.{ℕ, Result}
+use Rattle.octets.specs.Outcome.{Outcome}
+use Rattle.octets.specs.Refusals.{outcome}
+use Rattle.octets.specs.declared.refusal.Refusal.{Refusal}
 
-abbrev pub level_answer : Leveled → Outcome ℕ
-level_answer (Leveled.Refused n) = refused n
-level_answer (Leveled.Of l) = given l
+abbrev pub level_answer : Result ℕ Refusal → Outcome ℕ
+level_answer = outcome (λ l. l)

@@ -1,12 +1,12 @@
 // RFC 9000 sections 15 and 17.2 and docs/SCOPE.md, "Constants": the versions, and all that differs between them but the labels.
 #![tactic(auto)]
 
-ghost use Rattle.std.specs.Prelude.{◌≡◌};
+ghost use Rattle.std.specs.Prelude.{◌≡◌, cond, eqb};
 ghost use Rattle.versions.specs.Versions as Constants;
 ghost use Rattle.versions.specs.Versions.{known, type_for, level_of};
 ghost use Rattle.versions.specs.Answers.{level_answer};
 
-use octets::refusal;
+use octets::refusal::Refusal;
 
 pub mod level;
 
@@ -36,13 +36,6 @@ const RETRY_NONCE_1: [u8; 12] = *b"\x46\x15\x99\xd3\x5d\x63\x2b\xf2\x23\x98\x25\
 // The draft's nonce for Retry.
 const RETRY_NONCE_2: [u8; 12] = *b"\x14\x1b\x99\xc2\x39\xb0\x3e\x78\x5d\x6a\x2e\x9f";
 
-// The level that a packet type is of; Retry is of none.
-#[derive(Clone, Copy)]
-pub enum Leveled {
-    Refused(u8),
-    Of(u8),
-}
-
 // Whether the version is one of the two.
 pub fn is_known(version: u32) -> bool
     ensures { result ≡ known version }
@@ -53,34 +46,32 @@ pub fn is_known(version: u32) -> bool
     version == DRAFT_2
 }
 
+// What version 1 has, or the draft.
+fn by_version<T: Copy>(version: u32, first: T, draft: T) -> T
+    ensures { result ≡ cond (eqb version VERSION_1) first draft }
+{
+    if version == VERSION_1 { first } else { draft }
+}
+
 // The packet type that says Initial.
 fn initial_type(version: u32) -> u8
     ensures { result ≡ (Constants.version version).initial_type }
 {
-    if version == VERSION_1 {
-        return 0;
-    }
-    1
+    by_version(version, 0, 1)
 }
 
 // The packet type that says 0-RTT.
 fn zero_rtt_type(version: u32) -> u8
     ensures { result ≡ (Constants.version version).zero_rtt_type }
 {
-    if version == VERSION_1 {
-        return 1;
-    }
-    2
+    by_version(version, 1, 2)
 }
 
 // The packet type that says Handshake.
 fn handshake_type(version: u32) -> u8
     ensures { result ≡ (Constants.version version).handshake_type }
 {
-    if version == VERSION_1 {
-        return 2;
-    }
-    3
+    by_version(version, 2, 3)
 }
 
 // The packet type that a version writes for a level with a long header.
@@ -96,58 +87,46 @@ pub fn type_for(version: u32, level: u8) -> u8
     handshake_type(version)
 }
 
-// The level that a packet type is of.
-pub fn level_of(version: u32, kind: u8) -> Leveled
+// The level that a packet type is of; Retry is of none.
+pub fn level_of(version: u32, kind: u8) -> Result<u8, Refusal>
     ensures { level_answer result ≡ level_of (Constants.version version) kind }
 {
     if kind == type_for(version, level::INITIAL) {
-        return Leveled::Of(level::INITIAL);
+        return Ok(level::INITIAL);
     }
     if kind == type_for(version, level::ZERO_RTT) {
-        return Leveled::Of(level::ZERO_RTT);
+        return Ok(level::ZERO_RTT);
     }
     if kind == type_for(version, level::HANDSHAKE) {
-        return Leveled::Of(level::HANDSHAKE);
+        return Ok(level::HANDSHAKE);
     }
-    Leveled::Refused(refusal::TYPE)
+    Err(Refusal::Type)
 }
 
 // The packet type that says Retry.
 pub fn retry_type(version: u32) -> u8
     ensures { result ≡ (Constants.version version).retry_type }
 {
-    if version == VERSION_1 {
-        return 3;
-    }
-    0
+    by_version(version, 3, 0)
 }
 
 // The salt of the initial secret.
 pub fn salt(version: u32) -> [u8; 20]
     ensures { result ≡ (Constants.version version).salt }
 {
-    if version == VERSION_1 {
-        return SALT_1;
-    }
-    SALT_2
+    by_version(version, SALT_1, SALT_2)
 }
 
 // The key of the Retry tag.
 pub fn retry_key(version: u32) -> [u8; 16]
     ensures { result ≡ (Constants.version version).retry_key }
 {
-    if version == VERSION_1 {
-        return RETRY_KEY_1;
-    }
-    RETRY_KEY_2
+    by_version(version, RETRY_KEY_1, RETRY_KEY_2)
 }
 
 // The nonce of the Retry tag.
 pub fn retry_nonce(version: u32) -> [u8; 12]
     ensures { result ≡ (Constants.version version).retry_nonce }
 {
-    if version == VERSION_1 {
-        return RETRY_NONCE_1;
-    }
-    RETRY_NONCE_2
+    by_version(version, RETRY_NONCE_1, RETRY_NONCE_2)
 }

@@ -1,7 +1,6 @@
 -- The first byte says how many bytes there are: one, two, four or eight.
 use mathlib.Core.Path.{sym}
 use native.Mathlib.Omega.{arith}
-use lib.Pow.{pow_pos}
 use lib.Seq.{length-take-le}
 use Rattle.integers.proofs.Integers.{counted, nothing-there, not-whole, read}
 use Rattle.integers.proofs.read_integer.Goals as goal
@@ -9,34 +8,16 @@ use Rattle.integers.proofs.read_integer.Goals as goal
 pub returns-then-bytes-lt1 : goal.returns-then-bytes-lt1
 returns-then-bytes-lt1 c = record { answer = sym (nothing-there _ (omega arith)) }
 
-pub overflow_cast-bytes : goal.overflow_cast-bytes
-overflow_cast-bytes c = omega (arith, c.type_inv.bytes 0)
-
-pub power-taken-requires : goal.power-taken-requires
-power-taken-requires c = omega (arith, c.type_inv.bytes 0)
-
 pub returns-then-bytes-taken : goal.returns-then-bytes-taken
 returns-then-bytes-taken c = record { answer = sym (not-whole _ _ c.power-taken.ensures (omega arith) (omega arith)) }
-
-pub slice_bounds-load-end : goal.slice_bounds-load-end
-slice_bounds-load-end c = sym (length-take-le _ _ (omega arith))
 
 pub load-form_and_value-requires : goal.load-form_and_value-requires
 load-form_and_value-requires c =
     let eight = counted _ (c.type_inv.bytes 0).fits c.power-taken.ensures in
     rw (length-take-le c.power-taken.result c.args.bytes.now (omega arith)) eight.few
 
-pub overflow_mul-taken : goal.overflow_mul-taken
-overflow_mul-taken c = omega (arith, counted _ (c.type_inv.bytes 0).fits c.power-taken.ensures)
-
-pub overflow_sub-taken : goal.overflow_sub-taken
-overflow_sub-taken c = omega (arith, counted _ (c.type_inv.bytes 0).fits c.power-taken.ensures)
-
 pub power-requires : goal.power-requires
 power-requires c = omega (arith, counted _ (c.type_inv.bytes 0).fits c.power-taken.ensures)
-
-pub nonzero_rem-result : goal.nonzero_rem-result
-nonzero_rem-result c = rw c.power.ensures (pow_pos _)
 
 pub returns : goal.returns
 returns c =

@@ -9,15 +9,15 @@ returns-then-number-ge-NUMBERS c = sym (gap-range _ _ (omega arith))
 
 pub returns-then-number-greatest : goal.returns-then-number-greatest
 returns-then-number-greatest c =
-    let is = c.in-UpTo.is in
+    let is = c.in-Some.is in
     rw is (sym (gap-behind _ (omega arith) _ (omega arith)))
 
-pub returns-in-Nothing : goal.returns-in-Nothing
-returns-in-Nothing c =
-    let is = c.in-Nothing.is in
+pub returns-in-None : goal.returns-in-None
+returns-in-None c =
+    let is = c.in-None.is in
     rw is (c.covered.ensures ∙ sym (gap-none _ (omega arith)))
 
 pub returns-else-number-greatest : goal.returns-else-number-greatest
 returns-else-number-greatest c =
-    let is = c.in-UpTo.is in
-    rw is (c.covered-in-UpTo.ensures ∙ sym (gap-ahead _ (omega arith) _ (omega arith)))
+    let is = c.in-Some.is in
+    rw is (c.covered-in-Some.ensures ∙ sym (gap-ahead _ (omega arith) _ (omega arith)))
