@@ -6,8 +6,8 @@ ghost use Rattle.octets.specs.Octets.{part};
 ghost use Rattle.header_fields.specs.Fields.{id_at, integer_at, field_at, rest_at};
 ghost use Rattle.header_fields.specs.Answers.{found_answer};
 
-use integers::{Integer, read_integer};
-use octets::refusal;
+use integers::read_integer;
+use octets::refusal::Refusal;
 
 // The longest connection ID.
 pub const LONGEST_ID: usize = 20;
@@ -19,81 +19,77 @@ pub const TAG_LENGTH: usize = 16;
 const LEAST_LENGTH: usize = 20;
 
 // Where something stands in the datagram.
-#[derive(Clone, Copy)]
+#[derive(Clone, Copy, Debug, PartialEq, Eq)]
 pub struct Place {
     pub at: usize,
     pub len: usize,
 }
 
-// Where a field stands, or why it does not.
-#[derive(Clone, Copy)]
-pub enum Found {
-    Refused(u8),
-    At(Place),
+// The parts of a header that are handed out.
+#[derive(Clone, Copy, Debug, PartialEq, Eq)]
+pub enum Part {
+    Destination,
+    Source,
+    Token,
 }
 
 // A length byte and as many bytes: the length is judged before the bytes.
-pub fn id_at(datagram: &[u8], at: usize) -> Found
+pub fn id_at(datagram: &[u8], at: usize) -> Result<Place, Refusal>
     ensures { found_answer result ≡ id_at datagram.now at }
 {
     if datagram.len() <= at {
-        return Found::Refused(refusal::NOT_WHOLE);
+        return Err(Refusal::NotWhole);
     }
     let len = datagram[at] as usize;
     if LONGEST_ID < len {
-        return Found::Refused(refusal::LONG_ID);
+        return Err(Refusal::LongId);
     }
     if datagram.len() - (at + 1) < len {
-        return Found::Refused(refusal::NOT_WHOLE);
+        return Err(Refusal::NotWhole);
     }
-    Found::At(Place { at: at + 1, len })
+    Ok(Place { at: at + 1, len })
 }
 
 // An integer from a place on: where it ends, and its value.
-fn integer_at(datagram: &[u8], at: usize) -> Found
+// Kept: a place beside its datagram, here and in `field_at`, `rest_at` and the two `token_at`. docs/SCOPE.md, "Forms", names a struct
+// of both, the reader, for a later request alone, and the laws of Fields.antt speak of the two.
+fn integer_at(datagram: &[u8], at: usize) -> Result<Place, Refusal>
     requires { at ≤ length datagram.now }
     ensures { found_answer result ≡ integer_at datagram.now at }
 {
-    match read_integer(&datagram[at..]) {
-        Integer::Refused(why) => Found::Refused(why),
-        Integer::Read { value, taken } => Found::At(Place {
-            at: at + taken,
-            len: value as usize,
-        }),
-    }
+    let integer = read_integer(&datagram[at..])?;
+    Ok(Place {
+        at: at + integer.taken,
+        len: integer.value as usize,
+    })
 }
 
 // A length and as many bytes.
-pub fn field_at(datagram: &[u8], at: usize) -> Found
+pub fn field_at(datagram: &[u8], at: usize) -> Result<Place, Refusal>
     requires { at ≤ length datagram.now }
     ensures { found_answer result ≡ field_at datagram.now at }
 {
-    let field = match integer_at(datagram, at) {
-        Found::Refused(why) => return Found::Refused(why),
-        Found::At(field) => field,
-    };
+    let field = integer_at(datagram, at)?;
     if datagram.len() - field.at < field.len {
-        return Found::Refused(refusal::NOT_WHOLE);
+        return Err(Refusal::NotWhole);
     }
-    Found::At(field)
+    Ok(field)
 }
 
 // The rest of the packet, behind its Length: a Length that is too small is judged before its end.
-pub fn rest_at(datagram: &[u8], at: usize) -> Found
+// Kept: apart from `field_at`; one function with the least length as a parameter would judge a token by 0, which no rule says.
+pub fn rest_at(datagram: &[u8], at: usize) -> Result<Place, Refusal>
     requires { at ≤ length datagram.now }
     ensures { found_answer result ≡ rest_at datagram.now at }
 {
-    let rest = match integer_at(datagram, at) {
-        Found::Refused(why) => return Found::Refused(why),
-        Found::At(rest) => rest,
-    };
+    let rest = integer_at(datagram, at)?;
     if rest.len < LEAST_LENGTH {
-        return Found::Refused(refusal::SHORT);
+        return Err(Refusal::Short);
     }
     if datagram.len() - rest.at < rest.len {
-        return Found::Refused(refusal::NOT_WHOLE);
+        return Err(Refusal::NotWhole);
     }
-    Found::At(rest)
+    Ok(rest)
 }
 
 // The bytes at a place.

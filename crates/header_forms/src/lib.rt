@@ -6,22 +6,15 @@ ghost use Rattle.header_forms.specs.Rules.{in_force};
 ghost use Rattle.header_forms.specs.Forms.{masked_first, reserved_bits, formed};
 ghost use Rattle.header_forms.specs.Answers.{form_of, formed_answer};
 
-use octets::refusal;
+use octets::refusal::Refusal;
 
 // The largest datagram, and the largest packet that is written.
 pub const LIMIT: usize = 1500;
 
 // The forms of header.
-#[derive(Clone, Copy)]
+#[derive(Clone, Copy, Debug, PartialEq, Eq)]
 pub enum Form {
     Long,
-}
-
-// What judging a datagram's form answers: a refusal's number, or that it is right.
-#[derive(Clone, Copy)]
-pub enum Formed {
-    Refused(u8),
-    Right,
 }
 
 // The form bit and the fixed bit, as a number.
@@ -66,17 +59,17 @@ pub fn reserved_bits(form: Form, first: u8) -> u8
 }
 
 // Whether a datagram has a size that may come, and a first byte of the form.
-pub fn judge_form(datagram: &[u8], form: Form) -> Formed
+pub fn judge_form(datagram: &[u8], form: Form) -> Result<(), Refusal>
     ensures { formed_answer result ≡ formed in_force (form_of form) datagram.now }
 {
     if datagram.len() < 1 {
-        return Formed::Refused(refusal::SIZE);
+        return Err(Refusal::Size);
     }
     if LIMIT < datagram.len() {
-        return Formed::Refused(refusal::SIZE);
+        return Err(Refusal::Size);
     }
     if datagram[0] / 64 != top_bits(form) {
-        return Formed::Refused(refusal::FORM);
+        return Err(Refusal::Form);
     }
-    Formed::Right
+    Ok(())
 }

@@ -7,55 +7,36 @@ ghost use Rattle.versions.specs.Answers.{level_answer};
 ghost use Rattle.header_long.specs.LongHeader.{only_level, only_retry, version_of, judged, long};
 ghost use Rattle.header_long.specs.Answers.{takes, kind_of, judge_of, version_answer, judged_answer, long_answer};
 
-use header_fields::{Found, Place, id_at};
-use octets::refusal;
-use versions::{Leveled, is_known, level_of, retry_type};
+use header_fields::{Place, id_at};
+use octets::refusal::Refusal;
+use versions::{is_known, level_of, retry_type};
 
-// Which versions a reader takes: every known one, or that of some keys.
-#[derive(Clone, Copy)]
-pub enum Versions {
-    Known,
-    Only(u32),
-}
-
-// Which packets it takes, by their type: those of any level, of one level alone, or Retry.
-#[derive(Clone, Copy)]
+// Which packets a reader takes, by their type: those of any level, of one level alone, or Retry.
+// Kept: a closure is no plainer. Each reader would be generic over it, and its contract would speak of calls in place of `judge_of judge`.
+#[derive(Clone, Copy, Debug, PartialEq, Eq)]
 pub enum Types {
     Leveled,
     Level(u8),
     Retry,
 }
 
-// Who reads a long header.
-#[derive(Clone, Copy)]
+// Who reads a long header: the one version that is taken, or none for every known one, and the types.
+#[derive(Clone, Copy, Debug, PartialEq, Eq)]
 pub struct Judge {
-    pub versions: Versions,
+    pub only: Option<u32>,
     pub types: Types,
 }
 
-// The version that a long header names, or why it names none.
-#[derive(Clone, Copy)]
-enum Version {
-    Refused(u8),
-    Of(u32),
-}
-
 // A version that is taken, and what the reader takes the type for: a level, or Retry's type for itself.
+// Kept: a number for both, as `LongHeader.antt:long` has it; why levels are numbers is said in `versions::level`.
 #[derive(Clone, Copy)]
 struct Judged {
     version: u32,
     kind: u8,
 }
 
-// What judging both answers.
-#[derive(Clone, Copy)]
-enum Judgement {
-    Refused(u8),
-    Right(Judged),
-}
-
 // What every long header begins with.
-#[derive(Clone, Copy)]
+#[derive(Clone, Copy, Debug, PartialEq, Eq)]
 pub struct Long {
     pub version: u32,
     pub kind: u8,
@@ -63,49 +44,36 @@ pub struct Long {
     pub source: Place,
 }
 
-// What reading it answers: a refusal's number, or the version, what its type is taken for and the IDs' places.
-#[derive(Clone, Copy)]
-pub enum LongReading {
-    Refused(u8),
-    Read(Long),
-}
-
 // Whether a version is taken.
-fn is_taken(versions: Versions, version: u32) -> bool
-    ensures { result ≡ takes versions version }
+fn is_taken(only: Option<u32>, version: u32) -> bool
+    ensures { result ≡ takes only version }
 {
-    match versions {
-        Versions::Known => true,
-        Versions::Only(one) => version == one,
-    }
+    only.is_none_or(|one| version == one)
 }
 
 // A level, where it is the one that is wanted.
-fn only_level(wanted: u8, version: u32, kind: u8) -> Leveled
+fn only_level(wanted: u8, version: u32, kind: u8) -> Result<u8, Refusal>
     ensures { level_answer result ≡ only_level wanted (Constants.version version) kind }
 {
-    let level = match level_of(version, kind) {
-        Leveled::Refused(why) => return Leveled::Refused(why),
-        Leveled::Of(level) => level,
-    };
+    let level = level_of(version, kind)?;
     if level != wanted {
-        return Leveled::Refused(refusal::TYPE);
+        return Err(Refusal::Type);
     }
-    Leveled::Of(level)
+    Ok(level)
 }
 
 // A type, where it is Retry's.
-fn only_retry(version: u32, kind: u8) -> Leveled
+fn only_retry(version: u32, kind: u8) -> Result<u8, Refusal>
     ensures { level_answer result ≡ only_retry (Constants.version version) kind }
 {
     if kind != retry_type(version) {
-        return Leveled::Refused(refusal::TYPE);
+        return Err(Refusal::Type);
     }
-    Leveled::Of(kind)
+    Ok(kind)
 }
 
 // What a type is taken for.
-fn kind_of(types: Types, version: u32, kind: u8) -> Leveled
+fn kind_of(types: Types, version: u32, kind: u8) -> Result<u8, Refusal>
     ensures { level_answer result ≡ kind_of types (Constants.version version) kind }
 {
     match types {
@@ -116,54 +84,38 @@ fn kind_of(types: Types, version: u32, kind: u8) -> Leveled
 }
 
 // The version behind the first byte.
-fn read_version(datagram: &[u8]) -> Version
+fn read_version(datagram: &[u8]) -> Result<u32, Refusal>
     ensures { version_answer result ≡ version_of datagram.now }
 {
     if datagram.len() < 5 {
-        return Version::Refused(refusal::NOT_WHOLE);
+        return Err(Refusal::NotWhole);
     }
-    Version::Of(octets::word(datagram, 1))
+    Ok(octets::word(datagram, 1))
 }
 
 // The version, where it is taken, and what the reader takes that version's type for.
-fn judge_version(datagram: &[u8], judge: Judge) -> Judgement
+fn judge_version(datagram: &[u8], judge: Judge) -> Result<Judged, Refusal>
     ensures { judged_answer result ≡ judged (judge_of judge) datagram.now }
 {
-    let version = match read_version(datagram) {
-        Version::Refused(why) => return Judgement::Refused(why),
-        Version::Of(version) => version,
-    };
+    let version = read_version(datagram)?;
     if !is_known(version) {
-        return Judgement::Refused(refusal::VERSION);
+        return Err(Refusal::Version);
     }
-    let versions = judge.versions;
-    if !is_taken(versions, version) {
-        return Judgement::Refused(refusal::VERSION);
+    if !is_taken(judge.only, version) {
+        return Err(Refusal::Version);
     }
-    let types = judge.types;
-    match kind_of(types, version, datagram[0] / 16 % 4) {
-        Leveled::Refused(why) => Judgement::Refused(why),
-        Leveled::Of(kind) => Judgement::Right(Judged { version, kind }),
-    }
+    let kind = kind_of(judge.types, version, datagram[0] / 16 % 4)?;
+    Ok(Judged { version, kind })
 }
 
 // Section 17.2: what every long header begins with, behind a first byte that was judged, as far as the reader takes it.
-pub fn read_long(datagram: &[u8], judge: Judge) -> LongReading
+pub fn read_long(datagram: &[u8], judge: Judge) -> Result<Long, Refusal>
     ensures { long_answer result ≡ long (judge_of judge) datagram.now }
 {
-    let judged = match judge_version(datagram, judge) {
-        Judgement::Refused(why) => return LongReading::Refused(why),
-        Judgement::Right(judged) => judged,
-    };
-    let destination = match id_at(datagram, 5) {
-        Found::Refused(why) => return LongReading::Refused(why),
-        Found::At(place) => place,
-    };
-    let source = match id_at(datagram, destination.at + destination.len) {
-        Found::Refused(why) => return LongReading::Refused(why),
-        Found::At(place) => place,
-    };
-    LongReading::Read(Long {
+    let judged = judge_version(datagram, judge)?;
+    let destination = id_at(datagram, 5)?;
+    let source = id_at(datagram, destination.at + destination.len)?;
+    Ok(Long {
         version: judged.version,
         kind: judged.kind,
         destination,

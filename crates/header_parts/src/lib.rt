@@ -1,46 +1,39 @@
 // RFC 9000 sections 17.2.2 to 17.2.4: the parts of a header, handed out as they stand in the datagram.
 #![tactic(auto)]
 
-ghost use Rattle.header_parts.specs.Answers.{HeaderDestination, HeaderSource, HeaderToken};
+ghost use Rattle.header_parts.specs.Answers.{HeaderPart, HeaderDestination, HeaderSource, HeaderToken};
 
-use header_fields::part_at;
-use header_reading::{Reading, read_header};
+use header_fields::{Part, part_at};
+use header_reading::read_header;
 
-// The destination ID that reading the header finds, and nothing where reading refuses.
+// The part that reading the header finds, and nothing where reading refuses, nor for the token of a level that has none.
+pub fn header_part(datagram: &[u8], part: Part) -> &[u8]
+    ensures { HeaderPart part datagram.now result.now }
+{
+    match read_header(datagram) {
+        Ok(header) => part_at(datagram, header.place(part)),
+        Err(_) => &datagram[..0],
+    }
+}
+
+// The destination ID of the header, likewise.
+// Kept: each part has an operation of its own, as docs/SCOPE.md, "Answers", asks; here and in the two below it is one call.
 pub fn header_destination(datagram: &[u8]) -> &[u8]
     ensures { HeaderDestination datagram.now result.now }
 {
-    match read_header(datagram) {
-        Reading::Refused(_) => &datagram[..0],
-        Reading::Read(header) => {
-            let place = header.destination;
-            part_at(datagram, place)
-        }
-    }
+    header_part(datagram, Part::Destination)
 }
 
-// The source ID that reading the header finds, and nothing where reading refuses.
+// The source ID of the header, likewise.
 pub fn header_source(datagram: &[u8]) -> &[u8]
     ensures { HeaderSource datagram.now result.now }
 {
-    match read_header(datagram) {
-        Reading::Refused(_) => &datagram[..0],
-        Reading::Read(header) => {
-            let place = header.source;
-            part_at(datagram, place)
-        }
-    }
+    header_part(datagram, Part::Source)
 }
 
-// The token that reading the header finds, and nothing where the level has none or reading refuses.
+// The token of the header, likewise.
 pub fn header_token(datagram: &[u8]) -> &[u8]
     ensures { HeaderToken datagram.now result.now }
 {
-    match read_header(datagram) {
-        Reading::Refused(_) => &datagram[..0],
-        Reading::Read(header) => {
-            let place = header.token;
-            part_at(datagram, place)
-        }
-    }
+    header_part(datagram, Part::Token)
 }

@@ -11,10 +11,12 @@ use Rattle.versions.specs.Levels.{has_token}
 use Rattle.header_forms.specs.Rules.{Rules}
 use Rattle.header_forms.specs.Forms.{long_form, formed}
 use Rattle.header_fields.specs.Fields.{Place, behind, least_length, field_at, rest_at}
+use Rattle.header_fields.specs.declared.Part.{Part}
 use Rattle.header_fields.proofs.Fields.{Within, field-within, rest-within}
 use Rattle.header_long.specs.LongHeader.{Judge, of_any_level, Long, long}
 use Rattle.header_long.proofs.LongHeaders.{Right, long-there}
 use Rattle.header_reading.specs.PacketHeader.{Token, token_at, Header, header, any_header}
+use Rattle.header_reading.specs.Answers.{header_place}
 
 -- ---- the token
 module _ (level : ℕ) (d : List ℕ) (at : ℕ) where
@@ -89,6 +91,12 @@ pub record HeaderThere (takes : ℕ → Bool) (d : List ℕ) (h : Header) : Type
   pub number : behind h.source ≤ h.number_at
   pub enough : least_length ≤ h.length'
   pub all : h.number_at + h.length' ≤ length d
+
+-- so each part stands within it
+pub part-there : (part : Part) {takes : ℕ → Bool} {d : List ℕ} {h : Header} → HeaderThere takes d h → behind (header_place part h) ≤ length d
+part-there Part.Destination there = there.destination.inside
+part-there Part.Source there = there.source.inside
+part-there Part.Token there = there.token
 
 pub header-there : (judge : Judge ℕ) (d : List ℕ) {h : Header} → given h ≡ header judge d → HeaderThere judge.takes d h
 unfolding header

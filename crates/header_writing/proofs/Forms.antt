@@ -6,13 +6,14 @@ use mathlib.Core.List.{List, ◌++◌}
 use lib.ListN.{length, length-append}
 use Rattle.octets.specs.Octets.{bytes}
 use Rattle.octets.proofs.Numbers.{bytes-length}
+use Rattle.std.specs.Prelude.{Option, Some, None}
+use Rattle.std.specs.Borrow.{Bor}
 use Rattle.integers_writing.specs.Written.{smallest}
 use Rattle.integers_writing.proofs.Forms.{two_bytes}
 use Rattle.header_forms.specs.Rules.{Rules, in_force}
 use Rattle.header_writing.specs.Written as Section17
 use Rattle.header_writing.specs.Written.{with_length, long_fields, token_bytes, packet_fields, size_before_number}
 use Rattle.header_writing.specs.Answers.{token_of, token_size}
-use Rattle.header_writing.specs.declared.TokenField.{TokenField}
 
 pub long-length : (v : ℕ) (destination source : List ℕ) → length (long_fields v destination source) ≡ 6 + length destination + length source
 unfolding long_fields
@@ -37,9 +38,9 @@ fields-length rules v destination source token counted =
     )
 
 -- the token's field
-pub token-size : (field : TokenField) (token : List ℕ) → token_size field (length token) ≡ length (token_bytes (token_of field token))
-token-size TokenField.Holding token = omega (arith, length-append (smallest (length token)) token)
-token-size TokenField.Absent token = refl
+pub token-size : (token : Option (Bor (List ℕ))) → token_size token ≡ length (token_bytes (token_of token))
+token-size (Some token) = omega (arith, length-append (smallest (length token.now)) token.now)
+token-size None = refl
 
 -- Length is written in a few bytes
 pub length-few : (n : ℕ) → length (in_force.length_form n) ≤ 4

@@ -2,9 +2,10 @@
 use Prim.Native.Nat.{ℕ}
 use mathlib.Core.Path.{◌≡◌, sym, ◌∙◌}
 use mathlib.Core.Bool.{Bool}
-use mathlib.Core.List.{[]}
+use mathlib.Core.List.{List}
+use Rattle.std.specs.Prelude.{Option}
+use Rattle.std.specs.Borrow.{Bor}
 use Rattle.header_writing.specs.Answers.{WrittenBy}
-use Rattle.header_writing.specs.declared.TokenField.{TokenField}
 
-pub is-written-by-once : (field : TokenField) (level : ℕ) {r r' : Bool} → WrittenBy field level r → WrittenBy field level r' → r ≡ r'
-is-written-by-once field level a b = a [] ∙ sym (b [])
+pub is-written-by-once : (token : Option (Bor (List ℕ))) (level : ℕ) {r r' : Bool} → WrittenBy token level r → WrittenBy token level r' → r ≡ r'
+is-written-by-once token level a b = a ∙ sym b

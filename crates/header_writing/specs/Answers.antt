@@ -1,19 +1,31 @@
--- The code's token field as what it stands for, and how many bytes it takes.
-use Rattle.std.specs.Prelude.{ℕ, ◌+◌, ◌≡◌, Bool, List, length}
+-- The code's plain packet as what it stands for.
+use Rattle.std.specs.Prelude.{ℕ, ◌≡◌, ◌+◌, Bool, List, Option, Some, None, length}
+use Rattle.std.specs.Borrow.{Bor}
 use Rattle.integers_writing.specs.Written.{smallest}
 use Rattle.header_writing.specs.Written as Section17
 use Rattle.header_writing.specs.Written.{writes}
-use Rattle.header_writing.specs.declared.TokenField.{TokenField}
+use Rattle.header_writing.specs.declared.Plain as Code
 
--- a token that is handed over with no field for it is not looked at
-abbrev pub token_of : TokenField → (token : List ℕ) → Section17.TokenField
-token_of TokenField.Holding token = Section17.holding token
-token_of TokenField.Absent token = Section17.absent
+-- a packet has a field for a token, or none
+abbrev pub token_of : Option (Bor (List ℕ)) → Section17.TokenField
+token_of (Some token) = Section17.holding token.now
+token_of None = Section17.absent
 
--- whether keys of a level write it, whatever the token
-abbrev pub WrittenBy : TokenField → (level : ℕ) → Bool → Type 0
-WrittenBy field level r = (token : List ℕ) → r ≡ writes (token_of field token) level
+-- how many bytes a token takes with its field
+abbrev pub token_size : Option (Bor (List ℕ)) → ℕ
+token_size (Some token) = length (smallest (length token.now)) + length token.now
+token_size None = 0
 
-abbrev pub token_size : TokenField → (len : ℕ) → ℕ
-token_size TokenField.Holding len = length (smallest len) + len
-token_size TokenField.Absent len = 0
+-- whether keys of a level write it
+abbrev pub WrittenBy : Option (Bor (List ℕ)) → (level : ℕ) → Bool → Type 0
+WrittenBy token level r = r ≡ writes (token_of token) level
+
+abbrev pub plain_of : Code.Plain → Section17.Plain
+plain_of p = record {
+  destination = p.destination.now;
+  source = p.source.now;
+  token = token_of p.token;
+  payload = p.payload.now;
+  packet_number = p.number.0;
+  number_length = p.number_length;
+}

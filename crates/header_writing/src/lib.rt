@@ -5,16 +5,21 @@ ghost use Rattle.std.specs.Prelude.{◌≡◌, ◌∷◌, ◌+◌, ◌^◌, ◌�
 ghost use Rattle.octets.specs.Octets.{laid, Begins};
 ghost use Rattle.header_forms.specs.Rules.{in_force};
 ghost use Rattle.header_writing.specs.Written.{with_length, long_fields, token_bytes, packet_fields, FieldsFit};
-ghost use Rattle.header_writing.specs.Answers.{token_of, WrittenBy, token_size};
+ghost use Rattle.header_writing.specs.Answers.{token_of, WrittenBy};
 
 use integers_writing::{smallest_form, write_smallest, write_two};
+use numbers::FullPn;
 use versions::level;
 
-// Whether a packet has a field for a token: an Initial has, and no other packet with a number.
+// What a packet with a long header is made of. An Initial has a field for a token, and no other packet with a number has one.
 #[derive(Clone, Copy)]
-pub enum TokenField {
-    Holding,
-    Absent,
+pub struct Plain<'a> {
+    pub number: FullPn,
+    pub number_length: usize,
+    pub destination: &'a [u8],
+    pub source: &'a [u8],
+    pub token: Option<&'a [u8]>,
+    pub payload: &'a [u8],
 }
 
 // How many bytes the rules in force write Length in: two, whatever it counts.
@@ -60,38 +65,35 @@ pub fn write_long(
     source_at + 1 + source.len()
 }
 
-// Whether keys of a level write packets with such a field.
-pub fn is_written_by(field: TokenField, level: u8) -> bool
-    ensures { WrittenBy field level result }
+// Whether keys of a level write packets with that token's field, or with none.
+pub fn is_written_by(token: Option<&[u8]>, level: u8) -> bool
+    ensures { WrittenBy token.entry level result }
 {
-    match field {
-        TokenField::Holding => level == level::INITIAL,
-        TokenField::Absent => level == level::ZERO_RTT || level == level::HANDSHAKE,
+    match token {
+        Some(_) => level == level::INITIAL,
+        None => level == level::ZERO_RTT || level == level::HANDSHAKE,
     }
 }
 
-// How many bytes a token of that length takes with its field.
-pub fn token_form(field: TokenField, len: usize) -> usize
-    requires { token_size field len < 2 ^ 30 }
-    ensures { result ≡ token_size field len }
+// How many bytes a token takes with its length.
+pub fn token_form(token: Option<&[u8]>) -> usize
+    requires { length (token_bytes (token_of token)) < 2 ^ 30 }
+    ensures { result ≡ length (token_bytes (token_of token.entry)) }
 {
-    match field {
-        TokenField::Holding => smallest_form(len) + len,
-        TokenField::Absent => 0,
+    match token {
+        Some(token) => smallest_form(token.len()) + token.len(),
+        None => 0,
     }
 }
 
 // Section 17.2.2: the token behind its length, where the packet has a field for it.
-fn write_token(buffer: &mut [u8], at: usize, field: TokenField, token: &[u8])
-    requires { (length (token_bytes (token_of field token.now)) < 2 ^ 30) × (at + length (token_bytes (token_of field token.now)) ≤ length buffer.old) }
-    ensures { buffer.new ≡ laid buffer.old at (token_bytes (token_of field token.now)) }
+fn write_token(buffer: &mut [u8], at: usize, token: Option<&[u8]>)
+    requires { (length (token_bytes (token_of token)) < 2 ^ 30) × (at + length (token_bytes (token_of token)) ≤ length buffer.old) }
+    ensures { buffer.new ≡ laid buffer.old at (token_bytes (token_of token.entry)) }
 {
-    match field {
-        TokenField::Holding => {
-            write_smallest(buffer, at, token.len());
-            octets::copy(buffer, at + smallest_form(token.len()), token);
-        }
-        TokenField::Absent => {}
+    if let Some(token) = token {
+        write_smallest(buffer, at, token.len());
+        octets::copy(buffer, at + smallest_form(token.len()), token);
     }
 }
 
@@ -100,18 +102,15 @@ pub fn write_fields(
     buffer: &mut [u8],
     first: u8,
     version: u32,
-    destination: &[u8],
-    source: &[u8],
-    field: TokenField,
-    token: &[u8],
+    plain: Plain,
     counted: usize,
 ) -> usize
-    requires { FieldsFit destination.now source.now (token_of field token.now) counted buffer.old }
-    ensures { Begins (first ∷ packet_fields in_force version destination.now source.now (token_of field token.now) counted) buffer.old buffer.new result }
+    requires { FieldsFit plain.destination.now plain.source.now (token_of plain.token) counted buffer.old }
+    ensures { Begins (first ∷ packet_fields in_force version plain.entry.destination.now plain.entry.source.now (token_of plain.entry.token) counted) buffer.old buffer.new result }
 {
-    let token_at = write_long(buffer, first, version, destination, source);
-    write_token(buffer, token_at, field, token);
-    let length_at = token_at + token_form(field, token.len());
+    let token_at = write_long(buffer, first, version, plain.destination, plain.source);
+    write_token(buffer, token_at, plain.token);
+    let length_at = token_at + token_form(plain.token);
     write_length(buffer, length_at, counted);
     length_at + length_form(counted)
 }

@@ -7,9 +7,6 @@ use Rattle.header_fields.proofs.id_at.Goals as goal
 pub returns-then-datagram-at : goal.returns-then-datagram-at
 returns-then-datagram-at c = sym (id-none _ _ c.if-datagram-at.true)
 
-pub overflow_cast-len : goal.overflow_cast-len
-overflow_cast-len c = omega (arith, c.type_inv.datagram c.args.at)
-
 pub returns-then-len-gt-LONGEST_ID : goal.returns-then-len-gt-LONGEST_ID
 returns-then-len-gt-LONGEST_ID c = sym (id-long _ _ c.if-datagram-at.false (omega arith))
 

@@ -1,13 +1,9 @@
 -- The masked bits are the remainder by how many values they have.
-use Prim.Native.Nat.{ℕ, ◌%◌, ◌<◌}
-use mathlib.Core.Path.{sym, ap, subst}
+use Prim.Native.Nat.{ℕ, ◌%◌}
+use mathlib.Core.Path.{ap}
 use lib.Bits.{bit_xor}
-use lib.Pow.{pow_pos}
 use Rattle.header_forms.specs.Forms.{masked_first}
 use Rattle.header_forms.proofs.mask_first.Goals as goal
-
-pub nonzero_rem-result : goal.nonzero_rem-result
-nonzero_rem-result c = subst (λ (n : ℕ). 0 < n) (sym c.masked_values.ensures) (pow_pos _)
 
 pub returns : goal.returns
 unfolding masked_first

@@ -7,52 +7,31 @@ use Rattle.octets.proofs.Buffers.{goes_on}
 use Rattle.header_forms.specs.Rules.{in_force}
 use Rattle.header_writing.specs.Written.{long_fields, token_bytes, packet_fields}
 use Rattle.header_writing.specs.Answers.{token_of}
-use Rattle.header_writing.proofs.Forms.{long-length, token-size}
+use Rattle.header_writing.proofs.Forms.{long-length}
 use Rattle.header_writing.proofs.write_fields.Goals as goal
 
 pub write_token-requires : goal.write_token-requires
 write_token-requires c =
     let a = c.args in
-    let begun = long-length a.version a.destination.now a.source.now in
-    let size = token-size a.field a.token.now in
+    let begun = long-length a.version a.plain.destination.now a.plain.source.now in
     (c.requires.short-token, omega (arith, c.write_long-token_at.ensures.ends, c.write_long-token_at.auto, c.requires.room))
-
-pub token_form-requires : goal.token_form-requires
-token_form-requires c =
-    omega (arith, token-size c.args.field c.args.token.now, c.requires.short-token)
-
-pub overflow_add-length_at : goal.overflow_add-length_at
-overflow_add-length_at c =
-    let a = c.args in
-    let begun = long-length a.version a.destination.now a.source.now in
-    let size = token-size a.field a.token.now in
-    omega (arith, c.write_long-token_at.ensures.ends, c.token_form.ensures, c.requires.room)
 
 pub write_length-requires : goal.write_length-requires
 write_length-requires c =
     let a = c.args in
-    let begun = long-length a.version a.destination.now a.source.now in
-    let size = token-size a.field a.token.now in (
+    let begun = long-length a.version a.plain.destination.now a.plain.source.now in (
       c.requires.short-rest,
       omega (arith, c.write_long-token_at.ensures.ends, c.write_long-token_at.auto, c.token_form.ensures, c.write_token.auto, c.requires.room),
     )
-
-pub overflow_add-result : goal.overflow_add-result
-overflow_add-result c =
-    let a = c.args in
-    let begun = long-length a.version a.destination.now a.source.now in
-    let size = token-size a.field a.token.now in
-    omega (arith, c.write_long-token_at.ensures.ends, c.token_form.ensures, c.length_form.ensures, c.requires.room)
 
 pub returns : goal.returns
 unfolding packet_fields
 returns c =
     let a = c.args in
-    let begun = long-length a.version a.destination.now a.source.now in
-    let size = token-size a.field a.token.now in
+    let begun = long-length a.version a.plain.destination.now a.plain.source.now in
     let out = a.buffer.now in
-    let token = token_bytes (token_of a.field a.token.now) in
-    let front : List ℕ = a.first ∷ long_fields a.version a.destination.now a.source.now in
+    let token = token_bytes (token_of a.plain.token) in
+    let front : List ℕ = a.first ∷ long_fields a.version a.plain.destination.now a.plain.source.now in
     let counted = in_force.length_form a.counted in
     let begins = c.write_long-token_at.ensures in
     let form = c.token_form.ensures in
