@@ -1,25 +1,25 @@
 -- What making keys and installing them promise permits one answer only.
 use Prim.Native.Nat.{ℕ}
-use mathlib.Core.Path.{◌≡◌, sym, ap₂, ◌∙◌}
+use mathlib.Core.Path.{◌≡◌}
 use mathlib.Core.List.{List}
+use Rattle.std.specs.Prelude.{Result}
 use Rattle.octets.specs.Outcome.{Outcome}
+use Rattle.octets.specs.declared.refusal.Refusal.{Refusal}
+use Rattle.octets.proofs.Refusals.{outcome-once}
 use Rattle.protection.specs.Protection.{Keys}
+use Rattle.protection.specs.KeyRecord.{keys_of}
 use Rattle.protection.specs.declared.Keys as Code
-use Rattle.keys_expansion.proofs.OneAnswer.{keys-once}
+use Rattle.keys_expansion.proofs.OneAnswer.{keys_back, keys-back}
 use Rattle.keys.specs.declared.Side.{Side}
-use Rattle.keys.specs.declared.MadeKeys.{MadeKeys}
 use Rattle.keys.specs.Answers.{Made, InitialKeysMade, KeysInstalled}
 
-abbrev both : ℕ → Code.Keys → MadeKeys
-both n k = record { refused = n; keys = k }
+made-once : {o : Outcome Keys} {r r' : Result Code.Keys Refusal} → Made o r → Made o r' → r ≡ r'
+made-once = outcome-once keys_of keys_back keys-back
 
-made-once : {o : Outcome Keys} {r r' : MadeKeys} → Made o r → Made o r' → r ≡ r'
-made-once s t = ap₂ both (s.refusal ∙ sym t.refusal) (keys-once s.keys t.keys)
-
-pub initial-keys-once : (v : ℕ) (destination : List ℕ) (side : Side) {r r' : MadeKeys}
+pub initial-keys-once : (v : ℕ) (destination : List ℕ) (side : Side) {r r' : Result Code.Keys Refusal}
     → InitialKeysMade v destination side r → InitialKeysMade v destination side r' → r ≡ r'
-initial-keys-once v destination side = made-once
+initial-keys-once _ _ _ = made-once
 
-pub install-keys-once : (v level : ℕ) (sender : Side) (secret : List ℕ) {r r' : MadeKeys}
+pub install-keys-once : (v level : ℕ) (sender : Side) (secret : List ℕ) {r r' : Result Code.Keys Refusal}
     → KeysInstalled v level sender secret r → KeysInstalled v level sender secret r' → r ≡ r'
-install-keys-once v level sender secret = made-once
+install-keys-once _ _ _ _ = made-once

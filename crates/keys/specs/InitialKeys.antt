@@ -1,6 +1,6 @@
 -- RFC 9001 section 5.2: the keys of Initial packets.
 use Rattle.std.specs.Prelude.{ℕ, List, leb, length}
-use Rattle.octets.specs.Outcome.{Outcome, given, unless, ◌>>=◌, ◌>>◌}
+use Rattle.octets.specs.Outcome.{Outcome, given, unless, ◌>>◌}
 use Rattle.octets.specs.Text.{ascii}
 use Rattle.hkdf.specs.Hkdf.{extract, expand_label}
 use Rattle.versions.specs.Levels.{initial}

@@ -3,15 +3,14 @@
 #![tactic(auto)]
 
 ghost use Rattle.std.specs.Prelude.{◌≡◌, ◌≤◌, length};
-ghost use Rattle.octets.specs.Outcome as Outcome;
 ghost use Rattle.header_fields.specs.Fields.{longest_id};
 ghost use Rattle.keys.specs.InitialKeys.{side_secret};
 ghost use Rattle.keys.specs.InstalledKeys as Section51;
-ghost use Rattle.keys.specs.Answers.{side_of, Made, InitialKeysMade, KeysInstalled};
+ghost use Rattle.keys.specs.Answers.{side_of, InitialKeysMade, KeysInstalled};
 
 use header_fields::LONGEST_ID;
 use keys_expansion::keys_from;
-use octets::refusal;
+use octets::refusal::Refusal;
 use protection::Keys;
 use versions::level;
 
@@ -21,17 +20,10 @@ const ZERO_RTT: u32 = level::ZERO_RTT as u32;
 const HANDSHAKE: u32 = level::HANDSHAKE as u32;
 
 // Whose packets the keys protect.
-#[derive(Clone, Copy)]
+#[derive(Clone, Copy, Debug, PartialEq, Eq)]
 pub enum Side {
     Client,
     Server,
-}
-
-// The keys of one sender, or a refusal's number beside a blank record; 0 is no refusal.
-#[derive(Clone, Copy)]
-pub struct MadeKeys {
-    pub refused: u8,
-    pub keys: Keys,
 }
 
 // Section 5.2: the secret of one side.
@@ -49,37 +41,18 @@ fn secret_of(number: u32, destination: &[u8], side: Side) -> [u8; 32]
     secret
 }
 
-// A refusal's number, and the record that stands beside it.
-fn refuse(why: u8) -> MadeKeys
-    ensures { Made (Outcome.refused why) result }
-{
-    MadeKeys {
-        refused: why,
-        keys: Keys {
-            version: 0,
-            level: 0,
-            key: [0; 16],
-            iv: [0; 12],
-            hp: [0; 16],
-        },
-    }
-}
-
 // Section 5.2: one side's Initial keys, from the Destination Connection ID of the client's Initial.
-pub fn initial_keys(number: u32, destination: &[u8], side: Side) -> MadeKeys
+pub fn initial_keys(number: u32, destination: &[u8], side: Side) -> Result<Keys, Refusal>
     ensures { InitialKeysMade number destination.now side result }
 {
     if !versions::is_known(number) {
-        return refuse(refusal::VERSION);
+        return Err(Refusal::Version);
     }
     if LONGEST_ID < destination.len() {
-        return refuse(refusal::LONG_ID);
+        return Err(Refusal::LongId);
     }
     let secret = secret_of(number, destination, side);
-    MadeKeys {
-        refused: 0,
-        keys: keys_from(number, level::INITIAL, &secret),
-    }
+    Ok(keys_from(number, level::INITIAL, &secret))
 }
 
 // Whether keys of a level are installed for a sender. Initial keys never are, and a server sends no 0-RTT packets (RFC 9000 section
@@ -87,28 +60,27 @@ pub fn initial_keys(number: u32, destination: &[u8], side: Side) -> MadeKeys
 fn installs(level: u32, sender: Side) -> bool
     ensures { result ≡ Section51.installs level (side_of sender) }
 {
-    if level == HANDSHAKE {
-        return true;
-    }
     match sender {
-        Side::Client => level == ZERO_RTT,
-        Side::Server => false,
+        Side::Client => level == ZERO_RTT || level == HANDSHAKE,
+        Side::Server => level == HANDSHAKE,
     }
 }
 
 // Section 5.1: one sender's keys of a level, from its secret there.
-pub fn install_keys(number: u32, level: u32, sender: Side, secret: &[u8; 32]) -> MadeKeys
+// Kept: the level is a number, not an enum: the C interface (dw_install_keys) may pass any.
+pub fn install_keys(
+    number: u32,
+    level: u32,
+    sender: Side,
+    secret: &[u8; 32],
+) -> Result<Keys, Refusal>
     ensures { KeysInstalled number level sender secret.now result }
 {
     if !versions::is_known(number) {
-        return refuse(refusal::VERSION);
+        return Err(Refusal::Version);
     }
     if !installs(level, sender) {
-        return refuse(refusal::TYPE);
+        return Err(Refusal::Type);
     }
-    let named = level as u8;
-    MadeKeys {
-        refused: 0,
-        keys: keys_from(number, named, secret),
-    }
+    Ok(keys_from(number, level as u8, secret))
 }

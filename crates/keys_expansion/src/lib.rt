@@ -1,7 +1,7 @@
 // RFC 9001 section 5.1: a sender's keys, from its secret.
 #![tactic(auto)]
 
-ghost use Rattle.std.specs.Prelude.{◌≡◌, ◌≤◌, length, take};
+ghost use Rattle.std.specs.Prelude.{◌≡◌, ◌≤◌, length};
 ghost use Rattle.hkdf.specs.Hkdf.{expand_label};
 ghost use Rattle.versions.specs.Versions as Versions;
 ghost use Rattle.protection.specs.KeyRecord.{keys_of};
@@ -10,32 +10,28 @@ ghost use Rattle.keys_expansion.specs.Expansion.{label_of, keys_from};
 use protection::Keys;
 
 // What is expanded from a sender's secret.
-#[derive(Clone, Copy)]
+#[derive(Clone, Copy, Debug, PartialEq, Eq)]
 pub enum Part {
     Key,
     Iv,
     Hp,
 }
 
-// A label: its bytes, with blanks to the longest, and how many it has.
-#[derive(Clone, Copy)]
-struct Label([u8; 10], usize);
-
 // The label of a part in a version: section 5.1's, or the draft's.
-fn label_of(number: u32, part: Part) -> Label
-    ensures { (length result.0 ≡ 10) × (result.1 ≤ 10) × (take result.1 result.0 ≡ label_of part (Versions.version number)) }
+fn label_of(number: u32, part: Part) -> &'static [u8]
+    ensures { (length result.now ≤ 10) × (result.now ≡ label_of part (Versions.version number)) }
 {
     if number == versions::VERSION_1 {
         match part {
-            Part::Key => Label(*b"quic key  ", 8),
-            Part::Iv => Label(*b"quic iv   ", 7),
-            Part::Hp => Label(*b"quic hp   ", 7),
+            Part::Key => b"quic key",
+            Part::Iv => b"quic iv",
+            Part::Hp => b"quic hp",
         }
     } else {
         match part {
-            Part::Key => Label(*b"quicv2 key", 10),
-            Part::Iv => Label(*b"quicv2 iv ", 9),
-            Part::Hp => Label(*b"quicv2 hp ", 9),
+            Part::Key => b"quicv2 key",
+            Part::Iv => b"quicv2 iv",
+            Part::Hp => b"quicv2 hp",
         }
     }
 }
@@ -45,10 +41,7 @@ fn expand_part(number: u32, part: Part, secret: &[u8; 32], out: &mut [u8])
     requires { length out.old ≤ 32 }
     ensures { out.new ≡ expand_label secret.now (label_of part (Versions.version number)) (length out.old) }
 {
-    let label = label_of(number, part);
-    let text = label.0;
-    let count = label.1;
-    hkdf::expand_label(secret, &text[0..count], out);
+    hkdf::expand_label(secret, label_of(number, part), out);
 }
 
 // A sender's keys of a level, from its secret there.

@@ -4,19 +4,21 @@
 ghost use Rattle.protection.specs.KeyRecord.{keys_of};
 ghost use Rattle.open.specs.Opening.{Open};
 
-pub use open_decrypting::Opening;
+use octets::refusal::Refusal;
 use open_decrypting::decrypt;
 use open_judging::find;
-use open_revealing::Finding;
+use open_writing::Opened;
 use protection::Keys;
 
 // Section 5: the packet that begins a datagram, opened into a buffer, with the number expected then.
-pub fn open(keys: Keys, expected: &mut u64, datagram: &[u8], out: &mut [u8]) -> Opening
+pub fn open(
+    keys: Keys,
+    expected: &mut u64,
+    datagram: &[u8],
+    out: &mut [u8],
+) -> Result<Opened, Refusal>
     ensures { Open (keys_of keys) datagram.now expected.old expected.new out.old out.new result }
 {
-    let packet = match find(keys, *expected, datagram, out.len()) {
-        Finding::Refused(why) => return Opening::Refused(why),
-        Finding::Found(packet) => packet,
-    };
-    decrypt(keys, packet, expected, datagram, out)
+    let found = find(keys, *expected, datagram, out.len())?;
+    decrypt(keys, found, expected, out)
 }

@@ -3,7 +3,10 @@ use Prim.Native.Nat.{ℕ, ◌+◌, max}
 use mathlib.Core.Path.{◌≡◌, ap₂, ◌∙◌}
 use mathlib.Core.Bool.{Bool, true, false}
 use mathlib.Core.List.{List, ◌++◌}
+use Rattle.std.specs.Prelude.{Ok, Err}
 use Rattle.octets.specs.Outcome.{Outcome, refused, given}
+use Rattle.octets.specs.Refusals.{number_of}
+use Rattle.octets.specs.declared.refusal.Refusal.{Refusal}
 use Rattle.octets.specs.Octets.{begun}
 use Rattle.aes_schedule.specs.Expansion.{expansion}
 use Rattle.gcm_counter.specs.Counter.{stream, stream_by}
@@ -18,24 +21,23 @@ use Rattle.open_tag.specs.Matching.{Matches}
 use Rattle.open_writing.specs.Written.{Writes}
 use Rattle.open_writing.specs.declared.Opened as Code
 use Rattle.open_decrypting.specs.Decrypting.{Leaves}
-use Rattle.open_decrypting.specs.declared.Opening.TheVariants as Opening
 
-pub refuses : {o : Outcome Opened} (e : ℕ) (before : List ℕ) {n : ℕ} → o ≡ refused n → Leaves o e e before before (Opening.Refused n)
-refuses e before is = record { answer = rw is; number = rw is; buffer = rw is }
+pub refuses : {o : Outcome Opened} (e : ℕ) (before : List ℕ) (why : Refusal) → o ≡ refused (number_of why) → Leaves o e e before before (Err why)
+refuses e before why is = record { answer = rw is; number = rw is; buffer = rw is }
 
 -- ---- a packet whose tag is left to be judged
 module _ (k : Keys) (d : List ℕ) (e : ℕ) (before : List ℕ) (p : Packet) (schedule once : List ℕ) (expanded : schedule ≡ expansion k.key) (combined : once ≡ nonce k.iv p.number.0)
     (r : Bool) (judged : Matches schedule once d p r) where
-  pub tag-refused : r ≡ false → Leaves (tag_left k d p) e e before before (Opening.Refused 11)
+  pub tag-refused : r ≡ false → Leaves (tag_left k d p) e e before before (Err Refusal.Tag)
   unfolding tag
-  tag-refused differs = refuses e before (rw (← expanded, ← combined, ← judged, differs))
+  tag-refused differs = refuses e before Refusal.Tag (rw (← expanded, ← combined, ← judged, differs))
 
   tag-right : r ≡ true → tag_left k d p ≡ given (opened_as k d p)
   unfolding tag
   tag-right is = rw (← expanded, ← combined, ← judged, is)
 
   pub decrypts : r ≡ true → (next : ℕ) → next ≡ max e (p.number.0 + 1) → (then : List ℕ) (o : Code.Opened) → Writes schedule once d p before then o
-      → Leaves (tag_left k d p) e next before then (Opening.Opened o)
+      → Leaves (tag_left k d p) e next before then (Ok o)
   unfolding stream
   decrypts is next moved then o w =
       let right = tag-right is in

@@ -1,12 +1,12 @@
 -- What decrypting promises: its answer, the number expected then, and the lent buffer afterwards.
-use Rattle.std.specs.Prelude.{ℕ, ◌≡◌, List, length}
+use Rattle.std.specs.Prelude.{ℕ, ◌≡◌, List, length, Result}
 use Rattle.octets.specs.Outcome.{Outcome, refused, given}
 use Rattle.octets.specs.Octets.{placed}
+use Rattle.octets.specs.Refusals.{outcome}
+use Rattle.octets.specs.declared.refusal.Refusal.{Refusal}
 use Rattle.protection.specs.Clear.{Opened}
 use Rattle.packets.specs.Effects.{output, after}
 use Rattle.open_writing.specs.declared.Opened as Code
-use Rattle.open_decrypting.specs.declared.Opening.{Opening}
-use Rattle.open_decrypting.specs.declared.Opening.TheVariants as Opening
 
 -- docs/SCOPE.md, "Answers": the full number and its length, the header's length with the number in it, the payload's, and the bytes used
 pub record Report : Type 0 where
@@ -25,9 +25,8 @@ report_of o = record {
   bytes_used = o.used;
 }
 
-abbrev pub opening_answer : Opening → Outcome Report
-opening_answer (Opening.Refused n) = refused n
-opening_answer (Opening.Opened o) = given (report_of o)
+abbrev pub opening_answer : Result Code.Opened Refusal → Outcome Report
+opening_answer = outcome report_of
 
 -- the lengths are those of the plain header and of the payload
 abbrev pub reported : Outcome Opened → Outcome Report
@@ -41,7 +40,7 @@ reported (given o) = given (record {
 })
 
 -- what an outcome leaves: the answer, the number expected then, and the lent buffer
-pub record Leaves (o : Outcome Opened) (expected next : ℕ) (before then : List ℕ) (r : Opening) : Type 0 where
+pub record Leaves (o : Outcome Opened) (expected next : ℕ) (before then : List ℕ) (r : Result Code.Opened Refusal) : Type 0 where
   pub answer : opening_answer r ≡ reported o
   pub number : next ≡ after expected o
   pub buffer : then ≡ placed (output o) before

@@ -1,6 +1,8 @@
 -- A packet found in a datagram, before its tag is judged.
-use Rattle.std.specs.Prelude.{ℕ, ◌+◌, ◌≤◌, ◌<◌, ◌≡◌, List}
+use Rattle.std.specs.Prelude.{ℕ, ◌+◌, ◌≤◌, ◌<◌, ◌≡◌, List, Result, Ok, Err}
 use Rattle.octets.specs.Outcome.{refused}
+use Rattle.octets.specs.Refusals.{number_of}
+use Rattle.octets.specs.declared.refusal.Refusal.{Refusal}
 use Rattle.numbers.specs.Numbers.{numbers}
 use Rattle.header_forms.specs.Rules.{in_force}
 use Rattle.header_fields.specs.Fields.{tag_length}
@@ -9,9 +11,8 @@ use Rattle.protection.specs.AesGcm.{aes_gcm}
 use Rattle.packets.specs.Packet.{opened}
 use Rattle.open_unmasking.specs.Parts.{Within}
 use Rattle.open_unmasking.specs.declared.Packet.{Packet}
+use Rattle.open_unmasking.specs.declared.located.Located.{Located}
 use Rattle.open_revealing.specs.Revealing.{tag_left}
-use Rattle.open_revealing.specs.declared.Finding.{Finding}
-use Rattle.open_revealing.specs.declared.Finding.TheVariants as Finding
 
 -- all but the tag is judged
 pub record Found (k : Keys) (expected : ℕ) (d : List ℕ) (room : ℕ) (p : Packet) : Type 0 where
@@ -20,6 +21,6 @@ pub record Found (k : Keys) (expected : ℕ) (d : List ℕ) (room : ℕ) (p : Pa
   pub small : p.number.0 < numbers
   pub left : opened aes_gcm in_force k expected d room ≡ tag_left k d p
 
-abbrev pub Finds : Keys → (expected : ℕ) (d : List ℕ) (room : ℕ) → Finding → Type 0
-Finds k expected d room (Finding.Refused n) = opened aes_gcm in_force k expected d room ≡ refused n
-Finds k expected d room (Finding.Found p) = Found k expected d room p
+abbrev pub Finds : Keys → (expected : ℕ) (d : List ℕ) (room : ℕ) → Result Located Refusal → Type 0
+Finds k expected d room (Err why) = opened aes_gcm in_force k expected d room ≡ refused (number_of why)
+Finds k expected d room (Ok l) = (l.datagram.now ≡ d) × Found k expected d room l.packet

@@ -5,42 +5,41 @@ ghost use Rattle.protection.specs.KeyRecord.{keys_of};
 ghost use Rattle.open_judging.specs.Found.{Finds};
 
 use header_fields::TAG_LENGTH;
-use header_forms::{Form, Formed, judge_form};
-use header_long::{Judge, Types, Versions};
-use header_reading::{Reading, read_fields};
+use header_forms::{Form, judge_form};
+use header_long::{Judge, Types};
+use header_reading::read_fields;
 use numbers::NUMBERS;
-use octets::refusal;
-use open_revealing::{Finding, reveal};
+use octets::refusal::Refusal;
+use open_revealing::reveal;
+use open_unmasking::located::Located;
 use protection::Keys;
 
 // All that opening judges before the tag; no buffer is at hand to be written.
-pub fn find(keys: Keys, expected: u64, datagram: &[u8], room: usize) -> Finding
+pub fn find<'a>(
+    keys: Keys,
+    expected: u64,
+    datagram: &'a [u8],
+    room: usize,
+) -> Result<Located<'a>, Refusal>
     ensures { Finds (keys_of keys) expected datagram.now room result }
 {
     if NUMBERS < expected {
-        return Finding::Refused(refusal::RANGE);
+        return Err(Refusal::Range);
     }
-    let version = keys.version;
-    let level = keys.level;
-    if !versions::is_known(version) {
-        return Finding::Refused(refusal::VERSION);
+    if !versions::is_known(keys.version) {
+        return Err(Refusal::Version);
     }
-    match judge_form(datagram, Form::Long) {
-        Formed::Refused(why) => return Finding::Refused(why),
-        Formed::Right => {}
-    }
+    judge_form(datagram, Form::Long)?;
     let judge = Judge {
-        versions: Versions::Only(version),
-        types: Types::Level(level),
+        only: Some(keys.version),
+        types: Types::Level(keys.level),
     };
-    let header = match read_fields(datagram, judge) {
-        Reading::Refused(why) => return Finding::Refused(why),
-        Reading::Read(header) => header,
-    };
+    let header = read_fields(datagram, judge)?;
     let place = header.number_at;
     let length = header.length;
     if room < place + length - TAG_LENGTH {
-        return Finding::Refused(refusal::ROOM);
+        return Err(Refusal::Room);
     }
-    reveal(Form::Long, keys, expected, datagram, place, length)
+    let packet = reveal(Form::Long, keys, expected, datagram, place, length)?;
+    Ok(Located { datagram, packet })
 }

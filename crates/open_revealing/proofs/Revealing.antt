@@ -3,8 +3,11 @@ use Prim.Native.Nat.{ℕ, ◌+◌}
 use mathlib.Core.Path.{◌≡◌, refl, sym, ap, ◌∙◌}
 use mathlib.Core.List.{List}
 use lib.ListN.{take}
+use Rattle.std.specs.Prelude.{Result, Ok, Err, IsErrAnd}
 use Rattle.octets.specs.Outcome.{refused, given}
 use Rattle.octets.specs.Octets.{bytes, number as spells}
+use Rattle.octets.specs.Refusals.{number_of}
+use Rattle.octets.specs.declared.refusal.Refusal.{Refusal}
 use Rattle.octets.proofs.Numbers.{byte_power, number-back}
 use Rattle.numbers_recovery.specs.Recovery.{decoded, recovered}
 use Rattle.numbers.specs.declared.FullPn.{FullPn}
@@ -16,7 +19,13 @@ use Rattle.protection.proofs.Unprotecting.{number-some, number-few, recovery-ref
 use Rattle.open_unmasking.specs.Unmasking.{Unmasks}
 use Rattle.open_unmasking.specs.declared.Bare.{Bare}
 use Rattle.open_unmasking.specs.declared.Packet.{Packet}
-use Rattle.open_revealing.specs.Revealing.{Placed, Revealed}
+use Rattle.open_revealing.specs.Revealing.{Placed, Revealed, Reveals}
+
+-- what `?` passes on is what comes of it
+pub reveals-refused : (form : Form) (k : Keys) (e : ℕ) (d : List ℕ) (place len : ℕ) (r : Result Packet Refusal) (why : Refusal) → IsErrAnd r (λ passed. passed ≡ why)
+    → unprotected aes_gcm form k e (take (place + len) d) place ≡ refused (number_of why) → Reveals form k e d place len r
+reveals-refused form k e d place len (Err passed) why is refuses = rw is refuses
+reveals-refused form k e d place len (Ok p) why is refuses = absurd is
 
 module _ (form : Form) (k : Keys) (e : ℕ) (d : List ℕ) (place len : ℕ) (placed : Placed e d place len) {b : Bare} (u : Unmasks form k d place b) where
   pub bits-refused : (reserved_bits form b.first ≡ 0 → ⊥) → unprotected aes_gcm form k e (take (place + len) d) place ≡ refused 9

@@ -1,7 +1,9 @@
 -- What is found under the mask, before the tag is judged.
-use Rattle.std.specs.Prelude.{ℕ, ◌+◌, ◌≤◌, ◌<◌, ◌≡◌, List, length, take}
+use Rattle.std.specs.Prelude.{ℕ, ◌+◌, ◌≤◌, ◌<◌, ◌≡◌, List, length, take, Result, Ok, Err}
 use Rattle.octets.specs.Outcome.{Outcome, refused, given, unless, ◌>>◌}
 use Rattle.octets.specs.Octets.{same}
+use Rattle.octets.specs.Refusals.{number_of}
+use Rattle.octets.specs.declared.refusal.Refusal.{Refusal}
 use Rattle.numbers.specs.Numbers.{numbers}
 use Rattle.header_forms.specs.Forms.{Form}
 use Rattle.header_fields.specs.Fields.{least_length}
@@ -12,8 +14,6 @@ use Rattle.protection.specs.Clear.{Opened, unprotected}
 use Rattle.protection.specs.AesGcm.{aes_gcm}
 use Rattle.open_unmasking.specs.Parts.{plain_of, cipher_of, tag_of}
 use Rattle.open_unmasking.specs.declared.Packet.{Packet}
-use Rattle.open_revealing.specs.declared.Finding.{Finding}
-use Rattle.open_revealing.specs.declared.Finding.TheVariants as Finding
 
 -- a packet that lies whole in a datagram behind its header, and a number that may be expected
 pub record Placed (expected : ℕ) (d : List ℕ) (place len : ℕ) : Type 0 where
@@ -45,6 +45,6 @@ pub record Revealed (form : Form) (k : Keys) (expected : ℕ) (d : List ℕ) (pl
   pub small : p.number.0 < numbers
   pub left : unprotected aes_gcm form k expected (take (place + len) d) place ≡ tag_left k d p
 
-abbrev pub Reveals : Form → Keys → (expected : ℕ) (d : List ℕ) (place len : ℕ) → Finding → Type 0
-Reveals form k expected d place len (Finding.Refused n) = unprotected aes_gcm form k expected (take (place + len) d) place ≡ refused n
-Reveals form k expected d place len (Finding.Found p) = Revealed form k expected d place len p
+abbrev pub Reveals : Form → Keys → (expected : ℕ) (d : List ℕ) (place len : ℕ) → Result Packet Refusal → Type 0
+Reveals form k expected d place len (Err why) = unprotected aes_gcm form k expected (take (place + len) d) place ≡ refused (number_of why)
+Reveals form k expected d place len (Ok p) = Revealed form k expected d place len p

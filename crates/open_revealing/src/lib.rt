@@ -6,19 +6,12 @@ ghost use Rattle.protection.specs.KeyRecord.{keys_of};
 ghost use Rattle.open_revealing.specs.Revealing.{Placed, Reveals};
 
 use header_forms::{Form, reserved_bits};
-use numbers_recovery::{Recovered, recover};
-use octets::refusal;
-use open_unmasking::{Packet, unmask};
+use numbers_recovery::recover;
+use octets::refusal::Refusal;
+use open_unmasking::{Bare, Packet, unmask};
 use protection::Keys;
 
-// What was found in a datagram, before its tag is judged.
-#[derive(Clone, Copy)]
-pub enum Finding {
-    Refused(u8),
-    Found(Packet),
-}
-
-// The packet whose number stands at a place, and that has `length` bytes from there on.
+// The packet whose number stands at a place, and that has `length` bytes from there on; its tag is still to be judged.
 pub fn reveal(
     form: Form,
     keys: Keys,
@@ -26,26 +19,25 @@ pub fn reveal(
     datagram: &[u8],
     place: usize,
     length: usize,
-) -> Finding
+) -> Result<Packet, Refusal>
     requires { Placed expected datagram.now place length }
     ensures { Reveals (form_of form) (keys_of keys) expected datagram.now place length result }
 {
-    let bare = unmask(form, keys, datagram, place);
-    let first = bare.first;
+    let Bare {
+        first,
+        count,
+        truncated,
+    } = unmask(form, keys, datagram, place);
     if reserved_bits(form, first) != 0 {
-        return Finding::Refused(refusal::RESERVED);
+        return Err(Refusal::Reserved);
     }
-    let count = bare.count;
-    let truncated = bare.truncated;
-    match recover(expected, truncated, count) {
-        Recovered::Refused(why) => Finding::Refused(why),
-        Recovered::Full(number) => Finding::Found(Packet {
-            first,
-            count,
-            truncated,
-            number,
-            place,
-            length,
-        }),
-    }
+    let number = recover(expected, truncated, count)?;
+    Ok(Packet {
+        first,
+        count,
+        truncated,
+        number,
+        place,
+        length,
+    })
 }

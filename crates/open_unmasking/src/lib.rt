@@ -6,12 +6,14 @@ ghost use Rattle.header_forms.specs.Answers.{form_of};
 ghost use Rattle.protection.specs.KeyRecord.{keys_of};
 ghost use Rattle.open_unmasking.specs.Unmasking.{Spells, Unmasks};
 
+pub mod located;
+
 use header_forms::{Form, mask_first};
 use numbers::{FullPn, TruncatedPn};
 use protection::Keys;
 
 // Without the mask: the first byte, and the short number with the count of its bytes.
-#[derive(Clone, Copy)]
+#[derive(Clone, Copy, Debug, PartialEq, Eq)]
 pub struct Bare {
     pub first: u8,
     pub count: usize,
@@ -20,7 +22,7 @@ pub struct Bare {
 
 // A packet whose tag is still to be judged: without the mask, its first byte, its number as it stands there in `count` bytes and
 // the full one; where it stands, and how many bytes the packet has from there on.
-#[derive(Clone, Copy)]
+#[derive(Clone, Copy, Debug, PartialEq, Eq)]
 pub struct Packet {
     pub first: u8,
     pub count: usize,
@@ -43,8 +45,7 @@ pub fn unmask(form: Form, keys: Keys, datagram: &[u8], place: usize) -> Bare
     requires { place + 20 ≤ length datagram.now }
     ensures { Unmasks (form_of form) (keys_of keys) datagram.now place result }
 {
-    let hp = keys.hp;
-    let mask = protection::mask_of(&hp, datagram, place);
+    let mask = protection::mask_of(&keys.hp, datagram, place);
     let first = mask_first(form, mask[0], datagram[0]);
     let count = (first % 4 + 1) as usize;
     let end = place + count;

@@ -6,6 +6,7 @@ ghost use Rattle.aes_byte_rounds.specs.Cipher.{cipher};
 ghost use Rattle.protection.specs.Protection.{nonce, sample_of};
 
 // One sender's keys, of one version and level.
+// Kept: version and level are numbers, not enums: a record from the C interface (dw_open, dw_seal) may hold any, which opening refuses.
 #[derive(Clone, Copy)]
 pub struct Keys {
     pub version: u32,
@@ -34,7 +35,7 @@ fn sample_at(packet: &[u8], place: usize) -> [u8; 16]
     let start = place + 4;
     let end = place + 20;
     let mut sample = [0u8; 16];
-    octets::copy(&mut sample, 0, &packet[start..end]);
+    sample.copy_from_slice(&packet[start..end]);
     sample
 }
 

@@ -1,26 +1,19 @@
 -- Each refusal is one law, and so are the keys.
-use mathlib.Core.Path.{refl, sym, ap, ◌∙◌}
+use mathlib.Core.Path.{sym, ap, ◌∙◌}
 use native.Mathlib.Omega.{arith}
+use Rattle.octets.specs.Outcome.{given}
 use Rattle.versions.specs.Levels.{initial}
 use Rattle.keys_expansion.specs.Expansion.{keys_from}
-use Rattle.keys.specs.Answers.{side_of}
 use Rattle.keys.proofs.Made.{unknown-version, long-id, keys-made}
 use Rattle.keys.proofs.initial_keys.Goals as goal
 
 pub returns-then-not-is_known : goal.returns-then-not-is_known
-returns-then-not-is_known c =
-    let a = c.args in
-    rw (unknown-version a.number a.destination.now (side_of a.side) (sym c.is_known.ensures ∙ c.if-not-is_known.true))
-    c.refuse.ensures
+returns-then-not-is_known c = sym (unknown-version _ _ _ (sym c.is_known.ensures ∙ c.if-not-is_known.true))
 
 pub returns-then-destination-gt-LONGEST_ID : goal.returns-then-destination-gt-LONGEST_ID
-returns-then-destination-gt-LONGEST_ID c =
-    let a = c.args in
-    rw (long-id a.number a.destination.now (side_of a.side) (sym c.is_known.ensures ∙ c.if-not-is_known.false) (omega arith))
-    c.refuse-then-destination-gt-LONGEST_ID.ensures
+returns-then-destination-gt-LONGEST_ID c = sym (long-id _ _ _ (sym c.is_known.ensures ∙ c.if-not-is_known.false) (omega arith))
 
 pub returns : goal.returns
 returns c =
-    let a = c.args in
-    rw (keys-made a.number a.destination.now (side_of a.side) (sym c.is_known.ensures ∙ c.if-not-is_known.false) (omega arith))
-    (record { refusal = refl; keys = c.keys_from.ensures ∙ ap (keys_from a.number initial) c.secret_of-secret.ensures })
+    ap given (c.keys_from.ensures ∙ ap (keys_from c.args.number initial) c.secret_of-secret.ensures)
+    ∙ sym (keys-made _ _ _ (sym c.is_known.ensures ∙ c.if-not-is_known.false) (omega arith))

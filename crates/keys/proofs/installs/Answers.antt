@@ -1,14 +1,17 @@
--- Handshake for both, and of any other level 0-RTT alone, for the client.
-use mathlib.Core.Path.{sym}
-use Rattle.keys.specs.Answers.{side_of}
-use Rattle.keys.proofs.Installed.{installs-handshake, installs-client, installs-server}
+-- Handshake for both, and 0-RTT for the client.
+use mathlib.Core.Path.{refl}
+use borrow.Author.Tests.{ne_eqb}
+use Rattle.keys.specs.InstalledKeys.{installs}
 use Rattle.keys.proofs.installs.Goals as goal
 
-pub returns-then-level-eq-HANDSHAKE : goal.returns-then-level-eq-HANDSHAKE
-returns-then-level-eq-HANDSHAKE c = sym (installs-handshake _ (side_of c.args.sender) c.if-level-eq-HANDSHAKE.true)
+pub returns-then-level-eq-ZERO_RTT : goal.returns-then-level-eq-ZERO_RTT
+unfolding installs
+returns-then-level-eq-ZERO_RTT c = rw (c.in-Client.is, c.if-level-eq-ZERO_RTT.true) refl
 
-pub returns-in-Client : goal.returns-in-Client
-returns-in-Client c = rw c.in-Client.is (sym (installs-client _ c.if-level-eq-HANDSHAKE.false))
+pub returns-else-level-eq-ZERO_RTT : goal.returns-else-level-eq-ZERO_RTT
+unfolding installs
+returns-else-level-eq-ZERO_RTT c = rw (c.in-Client.is, ne_eqb _ _ c.if-level-eq-ZERO_RTT.false) refl
 
 pub returns-in-Server : goal.returns-in-Server
-returns-in-Server c = rw c.in-Server.is (sym (installs-server _ c.if-level-eq-HANDSHAKE.false))
+unfolding installs
+returns-in-Server c = rw c.in-Server.is refl

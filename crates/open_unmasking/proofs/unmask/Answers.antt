@@ -1,21 +1,14 @@
 -- The first byte under the mask tells how many bytes the number has.
 use Prim.Native.Nat.{ℕ, ◌+◌, ◌-◌, ◌%◌}
-use mathlib.Core.Path.{refl, sym, ap, ◌∙◌}
+use mathlib.Core.Path.{refl, ap, ◌∙◌}
 use borrow.Author.Rules.{rules}
 use native.Mathlib.Omega.{arith}
-use lib.ListN.{take, replicate, length-take}
-use lib.Seq.{length-take-le}
+use lib.ListN.{take, replicate}
 use Rattle.header_forms.specs.Answers.{form_of}
 use Rattle.protection.specs.Protection.{on_first}
 use Rattle.protection.specs.KeyRecord.{keys_of}
 use Rattle.open_unmasking.proofs.Masking.{short-taken, unmasks}
 use Rattle.open_unmasking.proofs.unmask.Goals as goal
-
-pub slice_bounds-read_short-end : goal.slice_bounds-read_short-end
-slice_bounds-read_short-end c = sym (length-take-le _ _ (omega (arith, c.copy_masked.auto.buffer)))
-
-pub read_short-requires : goal.read_short-requires
-read_short-requires c = simp length-take (omega (arith, c.copy_masked.auto.buffer))
 
 pub returns : goal.returns
 unfolding on_first
