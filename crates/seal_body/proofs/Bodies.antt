@@ -1,7 +1,7 @@
 -- The body behind a header: what is encrypted, and the tag over both.
 use Prim.Native.Nat.{ℕ, ◌+◌, ◌-◌, ◌≤◌}
-use mathlib.Core.Path.{◌≡◌, ap, ◌∙◌}
-use mathlib.Core.List.{List, [], ◌++◌, append-nil}
+use mathlib.Core.Path.{◌≡◌}
+use mathlib.Core.List.{List}
 use native.Mathlib.Omega.{arith}
 use lib.ListN.{length, take}
 use Rattle.octets.specs.Octets.{part, laid}
@@ -12,10 +12,6 @@ use Rattle.gcm.specs.Gcm.{tag, tag_by, hash_key}
 use Rattle.gcm_counter.proofs.Laws.{stream-by-length}
 use Rattle.protection.specs.Clear.{body_with}
 use Rattle.protection.specs.AesGcm.{aes_gcm}
-
--- the tag's last two pieces are empty
-pub one_piece : (schedule : List ℕ) (h : ℕ) (once header cipher : List ℕ) → tag_by schedule h once (header ++ [] ++ []) cipher ≡ tag_by schedule h once header cipher
-one_piece schedule h once header cipher = ap (λ (a : List ℕ). tag_by schedule h once a cipher) (append-nil (header ++ []) ∙ append-nil header)
 
 -- the ciphertext laid at a place, and behind it the tag over what stands before and it
 pub body-laid : (key once payload buffer schedule one made two : List ℕ) (at : ℕ) → at ≤ length buffer

@@ -1,15 +1,21 @@
 -- Where the fields before the number end, and the plain header by what is written of it.
-use Prim.Native.Nat.{ℕ, suc}
+use Prim.Native.Nat.{ℕ, suc, ◌≤◌}
 use mathlib.Core.Path.{◌≡◌, subst}
 use mathlib.Core.List.{List, ◌∷◌}
 use native.Mathlib.Omega.{arith}
 use lib.ListN.{length}
 use Rattle.octets.specs.Octets.{bytes, laid, Begins}
 use Rattle.octets.proofs.Buffers.{goes_on}
+use Rattle.versions.specs.Versions.{version, type_for}
+use Rattle.versions.proofs.Versions.{type-fits}
 use Rattle.header_forms.specs.Rules.{in_force}
 use Rattle.header_writing.specs.Written.{TokenField, packet_fields, size_before_number, Plain, first_byte, fields, length_of}
 use Rattle.header_writing.proofs.Forms.{fields-length}
 use Rattle.seal_header.specs.HeaderWritten.{HeaderWritten}
+
+-- a type that is written is below four
+pub type-narrow : (type v level : ℕ) → type ≡ type_for (version v) level → type ≤ 3
+type-narrow type v level is = omega (arith, is, type-fits v level)
 
 -- whatever Length they tell
 pub fields-end : (v counted place : ℕ) (destination source : List ℕ) (token : TokenField) → place ≡ suc (length (packet_fields in_force v destination source token counted))

@@ -1,28 +1,30 @@
 -- A packet's size, judged: what it comes to by the tests, and that sealing has nothing else to judge at its end.
 use Prim.Native.Nat.{ℕ, ◌+◌, ◌≤◌, ◌<◌}
 use mathlib.Core.Path.{◌≡◌, refl, sym, ap, ◌∙◌}
+use mathlib.Core.List.{List}
 use mathlib.Core.Bool.{Bool, true, false}
 use native.Mathlib.Omega.{arith}
 use lib.Dec.{leb}
-use lib.ListN.{length}
+use lib.ListN.{length, length-append}
 use borrow.Author.Tests.{le-leb, lt-leb, leb-true, leb-false}
+use Rattle.std.specs.Prelude.{Option, Some, None}
+use Rattle.std.specs.Borrow.{Bor}
 use Rattle.octets.specs.Outcome.{refused, given}
 use Rattle.octets.specs.Octets.{length_given}
+use Rattle.integers_writing.specs.Written.{smallest}
 use Rattle.integers_writing.proofs.Forms.{smallest-few}
 use Rattle.numbers_shortening.specs.Shortening.{Acknowledged, shortened}
 use Rattle.versions.specs.Versions.{known}
 use Rattle.header_fields.specs.Fields.{longest_id}
 use Rattle.header_forms.specs.Rules.{in_force}
-use Rattle.header_writing.specs.Written.{writes, Plain}
+use Rattle.header_writing.specs.Written.{writes, token_bytes, Plain}
 use Rattle.protection.specs.Protection.{Keys}
 use Rattle.packets.specs.Packet.{packet_of, sealed}
 use Rattle.packets.specs.Sealable.{size_of}
 use Rattle.protection.specs.AesGcm.{aes_gcm}
 use Rattle.protection.proofs.AesGcmLaws.{aes-gcm-laws}
 use Rattle.packets.proofs.Sealing.{seal-size, seal-room, seal-given, packet-size}
-use Rattle.header_writing.specs.Answers.{token_size}
-use Rattle.header_writing.specs.declared.TokenField.{TokenField}
-use Rattle.header_writing.specs.declared.TokenField.TheVariants as TokenField
+use Rattle.header_writing.specs.Answers.{token_of}
 use Rattle.seal_judging.specs.Judging.{held_of, sized}
 
 module _ (size room : ℕ) where
@@ -39,13 +41,13 @@ module _ (size room : ℕ) where
   within fits h = rw (le-leb size in_force.limit fits, le-leb size room h)
 
 -- what counts of a token is nearly what it takes
-pub held_below : (field : TokenField) (token : ℕ) → held_of field token ≤ token_size field token
-held_below TokenField.Holding token = omega arith
-held_below TokenField.Absent token = omega arith
+pub held_below : (token : Option (Bor (List ℕ))) → held_of token ≤ length (token_bytes (token_of token))
+held_below (Some token) = omega (arith, length-append (smallest (length token.now)) token.now)
+held_below None = omega arith
 
-pub held-nearly : (field : TokenField) (token : ℕ) → token_size field token ≤ 4 + held_of field token
-held-nearly TokenField.Holding token = omega (arith, smallest-few token)
-held-nearly TokenField.Absent token = omega arith
+pub held-nearly : (token : Option (Bor (List ℕ))) → length (token_bytes (token_of token)) ≤ 4 + held_of token
+held-nearly (Some token) = omega (arith, smallest-few (length token.now), length-append (smallest (length token.now)) token.now)
+held-nearly None = omega arith
 
 -- all is judged but size and room
 module _ (k : Keys) (a : Acknowledged) (p : Plain) (room : ℕ) (ours : known k.version ≡ true) (suits : writes p.token k.level ≡ true) {t : ℕ} (short : given t ≡ shortened p.packet_number a p.number_length)

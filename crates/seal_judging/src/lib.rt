@@ -6,127 +6,88 @@ ghost use Rattle.octets.specs.Octets.{length_given};
 ghost use Rattle.numbers_shortening.specs.Answers.{acknowledged_of};
 ghost use Rattle.header_fields.specs.Fields.{longest_id};
 ghost use Rattle.header_forms.specs.Rules.{in_force};
-ghost use Rattle.header_writing.specs.Answers.{token_of, token_size};
+ghost use Rattle.header_writing.specs.Answers.{plain_of};
 ghost use Rattle.protection.specs.KeyRecord.{keys_of};
 ghost use Rattle.packets.specs.Packet.{sealed};
+ghost use Rattle.packets.specs.Sealable.{size_of};
 ghost use Rattle.protection.specs.AesGcm.{aes_gcm};
 ghost use Rattle.seal_judging.specs.Judging.{sealing_answer, held_of, sized};
 
 use header_fields::{LONGEST_ID, TAG_LENGTH};
 use header_forms::LIMIT;
-use header_writing::{TokenField, is_written_by};
+use header_writing::{Plain, is_written_by};
 use numbers::FullPn;
-use numbers_shortening::{Acknowledged, Shortened, shorten};
-use octets::refusal;
+use numbers_shortening::shorten;
+use octets::refusal::Refusal;
 use protection::Keys;
 
-// What sealing answers: a refusal's number, or the packet's length.
-#[derive(Clone, Copy)]
-pub enum Sealing {
-    Refused(u8),
-    Written(usize),
-}
-
 // How long a token is, as far as the packet has a field for it.
-fn held(field: TokenField, token: usize) -> usize
-    ensures { result ≡ held_of field token }
+fn held(token: Option<&[u8]>) -> usize
+    ensures { result ≡ held_of token.entry }
 {
-    match field {
-        TokenField::Holding => token,
-        TokenField::Absent => 0,
-    }
+    token.map_or(0, |token| token.len())
 }
 
 // How long the packet is, where no part of it is over the limit.
-fn size_of(
-    count: usize,
-    destination: usize,
-    source: usize,
-    field: TokenField,
-    token: usize,
-    payload: usize,
-) -> usize
-    requires { (count ≤ 4) × (destination ≤ in_force.limit) × (source ≤ in_force.limit) × (held_of field token ≤ in_force.limit) × (payload ≤ in_force.limit) }
-    ensures { result ≡ 7 + destination + source + token_size field token + length (in_force.length_form (count + payload + 16)) + (count + payload + 16) }
+fn size_of(plain: Plain) -> usize
+    requires { (plain.number_length ≤ 4) × (length plain.destination.now ≤ in_force.limit) × (length plain.source.now ≤ in_force.limit) × (held_of plain.token ≤ in_force.limit) × (length plain.payload.now ≤ in_force.limit) }
+    ensures { result ≡ size_of in_force (plain_of plain.entry) }
 {
-    let counted = count + payload + TAG_LENGTH;
-    7 + destination
-        + source
-        + header_writing::token_form(field, token)
+    let counted = plain.number_length + plain.payload.len() + TAG_LENGTH;
+    7 + plain.destination.len()
+        + plain.source.len()
+        + header_writing::token_form(plain.token)
         + header_writing::length_form(counted)
         + counted
 }
 
-// Whether a packet with parts of these lengths is over the limit, or over the room for it; its length, where it is neither.
-fn judge_size(
-    count: usize,
-    destination: usize,
-    source: usize,
-    field: TokenField,
-    token: usize,
-    payload: usize,
-    room: usize,
-) -> Sealing
-    requires { (count ≤ 4) × (destination ≤ longest_id) × (source ≤ longest_id) }
-    ensures { sealing_answer result ≡ sized (7 + destination + source + token_size field token + length (in_force.length_form (count + payload + 16)) + (count + payload + 16)) room }
+// Whether the packet is over the limit, or over the room for it; its length, where it is neither.
+fn judge_size(plain: Plain, room: usize) -> Result<usize, Refusal>
+    requires { (plain.number_length ≤ 4) × (length plain.destination.now ≤ longest_id) × (length plain.source.now ≤ longest_id) }
+    ensures { sealing_answer result ≡ sized (size_of in_force (plain_of plain.entry)) room }
 {
-    if LIMIT < held(field, token) {
-        return Sealing::Refused(refusal::SIZE);
+    let token = held(plain.token);
+    if LIMIT < token {
+        return Err(Refusal::Size);
     }
-    if LIMIT < payload {
-        return Sealing::Refused(refusal::SIZE);
+    if LIMIT < plain.payload.len() {
+        return Err(Refusal::Size);
     }
-    let size = size_of(count, destination, source, field, token, payload);
+    let size = size_of(plain);
     if LIMIT < size {
-        return Sealing::Refused(refusal::SIZE);
+        return Err(Refusal::Size);
     }
     if room < size {
-        return Sealing::Refused(refusal::ROOM);
+        return Err(Refusal::Room);
     }
-    Sealing::Written(size)
+    Ok(size)
 }
 
-// What sealing into a room of that many bytes answers; no buffer is at hand to be written.
+// What sealing into a room of that many bytes answers, the packet's length where it isn't refused; no buffer is at hand to be written.
 pub fn judge(
     keys: Keys,
-    number: FullPn,
-    acknowledged: Acknowledged,
-    count: usize,
-    destination: &[u8],
-    source: &[u8],
-    field: TokenField,
-    token: &[u8],
-    payload: &[u8],
+    acknowledged: Option<FullPn>,
+    plain: Plain,
     room: usize,
-) -> Sealing
-    ensures { sealing_answer result ≡ length_given (sealed aes_gcm in_force (keys_of keys) (acknowledged_of acknowledged) (record { destination = destination.now; source = source.now; token = token_of field token.now; payload = payload.now; packet_number = number.0; number_length = count }) room) }
+) -> Result<usize, Refusal>
+    ensures { sealing_answer result ≡ length_given (sealed aes_gcm in_force (keys_of keys) (acknowledged_of acknowledged) (plain_of plain.entry) room) }
 {
     if !versions::is_known(keys.version) {
-        return Sealing::Refused(refusal::VERSION);
+        return Err(Refusal::Version);
     }
-    if !is_written_by(field, keys.level) {
-        return Sealing::Refused(refusal::TYPE);
+    if !is_written_by(plain.token, keys.level) {
+        return Err(Refusal::Type);
     }
-    match shorten(number, acknowledged, count) {
-        Shortened::Refused(why) => return Sealing::Refused(why),
-        Shortened::Short(_) => {}
+    let count = plain.number_length;
+    shorten(plain.number, acknowledged, count)?;
+    if LONGEST_ID < plain.destination.len() {
+        return Err(Refusal::LongId);
     }
-    if LONGEST_ID < destination.len() {
-        return Sealing::Refused(refusal::LONG_ID);
+    if LONGEST_ID < plain.source.len() {
+        return Err(Refusal::LongId);
     }
-    if LONGEST_ID < source.len() {
-        return Sealing::Refused(refusal::LONG_ID);
+    if count + plain.payload.len() < 4 {
+        return Err(Refusal::Short);
     }
-    if count + payload.len() < 4 {
-        return Sealing::Refused(refusal::SHORT);
-    }
-    judge_size(
-        count,
-        destination.len(),
-        source.len(),
-        field,
-        token.len(),
-        payload.len(),
-        room,
-    )
+    judge_size(plain, room)
 }

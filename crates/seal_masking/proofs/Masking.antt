@@ -2,7 +2,6 @@
 use Prim.Native.Nat.{ℕ, ◌+◌, ◌≤◌}
 use mathlib.Core.Path.{◌≡◌}
 use mathlib.Core.List.{List, [], ◌∷◌}
-use native.Mathlib.Omega.{arith}
 use lib.ListN.{length, get_or, take, drop}
 use Rattle.octets.specs.Octets.{part, xor, laid}
 use Rattle.octets.proofs.Parts.{part_length}
@@ -16,10 +15,6 @@ pub number-taken : (d buffer : List ℕ) (place len count : ℕ) → len ≡ cou
     → take count (laid d 0 (part buffer place len)) ≡ part buffer place count
 number-taken d buffer place len count is inside =
     rw is (front-laid d (part buffer place count) count (part_length buffer place count inside))
-
--- what a mask has behind its first byte
-pub rest-length : (mask : List ℕ) → length mask ≡ 16 → length (take 15 (drop 1 mask)) ≡ 15
-rest-length mask sixteen = part_length mask 1 15 (omega arith)
 
 -- what is laid over the first byte and the number is the mask
 pub mask-laid : (form : Form) (mask buffer one two short : List ℕ) (place count first : ℕ) → length mask ≡ 16

@@ -13,6 +13,7 @@ pub fn protect(form: Form, mask: [u8; 16], place: usize, count: usize, buffer: &
     ensures { buffer.new ≡ masked (form_of form) mask place count buffer.old }
 {
     let end = place + count;
+    // Kept: a number has one to four bytes, and without a heap they stand in four; `octets::copy_masked` reads no buffer that it writes.
     let mut short = [0u8; 4];
     octets::copy(&mut short, 0, &buffer[place..end]);
     let first = mask_first(form, mask[0], buffer[0]);

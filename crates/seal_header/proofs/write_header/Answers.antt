@@ -1,20 +1,17 @@
 -- The fields before the number, and the number's low bytes behind them.
-use Prim.Native.Nat.{ℕ, ◌≤◌}
-use mathlib.Core.Path.{sym, subst}
 use native.Mathlib.Omega.{arith}
 use Rattle.header_writing.specs.Written.{first_byte}
-use Rattle.versions.proofs.Versions.{type-fits}
-use Rattle.seal_header.proofs.Headers.{fields-end, header-written}
+use Rattle.seal_header.proofs.Headers.{type-narrow, fields-end, header-written}
 use Rattle.seal_header.proofs.write_header.Goals as goal
 
 pub overflow_mul-first : goal.overflow_mul-first
-overflow_mul-first c = omega (arith, subst (λ (type : ℕ). type ≤ 3) (sym c.type_for.ensures) (type-fits _ _))
+overflow_mul-first c = omega (arith, type-narrow _ _ _ c.type_for.ensures)
 
 pub overflow_add-first : goal.overflow_add-first
-overflow_add-first c = omega (arith, subst (λ (type : ℕ). type ≤ 3) (sym c.type_for.ensures) (type-fits _ _))
+overflow_add-first c = omega (arith, type-narrow _ _ _ c.type_for.ensures)
 
 pub overflow_add-first-2 : goal.overflow_add-first-2
-overflow_add-first-2 c = omega (arith, subst (λ (type : ℕ). type ≤ 3) (sym c.type_for.ensures) (type-fits _ _))
+overflow_add-first-2 c = omega (arith, type-narrow _ _ _ c.type_for.ensures)
 
 pub store-requires : goal.store-requires
 store-requires c =

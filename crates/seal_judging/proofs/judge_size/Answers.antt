@@ -5,19 +5,12 @@ use Rattle.octets.specs.Outcome.{given}
 use Rattle.seal_judging.proofs.Sizes.{over-limit, over-room, within, held_below}
 use Rattle.seal_judging.proofs.judge_size.Goals as goal
 
-pub returns-then-held-gt-LIMIT : goal.returns-then-held-gt-LIMIT
-returns-then-held-gt-LIMIT c =
-    let a = c.args in
-    over-limit _ _ (omega (arith, c.if-held-gt-LIMIT.true, c.held.ensures, held_below a.field a.token))
+pub returns-then-token-gt-LIMIT : goal.returns-then-token-gt-LIMIT
+returns-then-token-gt-LIMIT c =
+    over-limit _ _ (omega (arith, c.if-token-gt-LIMIT.true, c.held-token.ensures, held_below c.args.plain.token))
 
-pub returns-then-payload-gt-LIMIT : goal.returns-then-payload-gt-LIMIT
-returns-then-payload-gt-LIMIT c = over-limit _ _ (omega arith)
-
-pub size_of-size-requires : goal.size_of-size-requires
-size_of-size-requires c =
-    let a = c.args in
-    let held = c.held.ensures in
-    (c.requires.0, omega arith, omega arith, omega (arith, held, c.if-held-gt-LIMIT.false), c.if-payload-gt-LIMIT.false)
+pub returns-then-plain-gt-LIMIT : goal.returns-then-plain-gt-LIMIT
+returns-then-plain-gt-LIMIT c = over-limit _ _ (omega arith)
 
 pub returns-then-size-gt-LIMIT : goal.returns-then-size-gt-LIMIT
 returns-then-size-gt-LIMIT c = let counted = c.size_of-size.ensures in over-limit _ _ (omega arith)

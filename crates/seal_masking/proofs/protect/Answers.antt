@@ -1,24 +1,13 @@
 -- The first byte and the number's bytes, each with its part of the mask laid on.
 use Prim.Native.Nat.{◌+◌, ◌-◌}
-use mathlib.Core.Path.{sym, ap, ◌∙◌}
+use mathlib.Core.Path.{ap, ◌∙◌}
 use borrow.Author.Rules.{rules}
 use native.Mathlib.Omega.{arith}
 use lib.ListN.{take, replicate}
-use lib.Seq.{length-take-le}
 use Rattle.header_forms.specs.Answers.{form_of}
 use Rattle.protection.specs.Protection.{on_first}
-use Rattle.seal_masking.proofs.Masking.{number-taken, rest-length, mask-laid}
+use Rattle.seal_masking.proofs.Masking.{number-taken, mask-laid}
 use Rattle.seal_masking.proofs.protect.Goals as goal
-
-pub slice_bounds-copy_masked-end : goal.slice_bounds-copy_masked-end
-slice_bounds-copy_masked-end c = sym (length-take-le _ _ (omega (arith, c.copy.auto.buffer)))
-
-pub copy_masked-requires : goal.copy_masked-requires
-copy_masked-requires c =
-    let a = c.args in
-    let count = length-take-le a.count c.copy.new.buffer (omega (arith, c.copy.auto.buffer)) in
-    let rest = rest-length a.mask (search rules) in
-    (omega (arith, c.put.auto.buffer), omega arith)
 
 pub returns : goal.returns
 unfolding on_first

@@ -15,9 +15,9 @@ use Rattle.seal_protecting.proofs.protect_packet.Goals as goal
 pub returns : goal.returns
 returns c =
     let a = c.args in
-    let at = a.place + a.count in
+    let at = a.place + a.plain.number_length in
     let one = a.buffer.now in
     let body = c.write_body.ensures
-    ∙ ap (λ (once : List ℕ). laid one at (body_with aes_gcm a.keys.key once (take at one) a.payload.now)) c.nonce_of-nonce.ensures in
-    λ first fields out here begins. protected-laid (form_of a.form) (keys_of a.keys) (clear a.number a.count a.payload.now first fields) out one _ _ _ a.place c.requires.enough here begins
+    ∙ ap (λ (once : List ℕ). laid one at (body_with aes_gcm a.keys.key once (take at one) a.plain.payload.now)) c.nonce_of-nonce.ensures in
+    λ first fields out here begins. protected-laid (form_of a.form) (keys_of a.keys) (clear a.plain.number.0 a.plain.number_length a.plain.payload.now first fields) out one _ _ _ a.place c.requires.enough here begins
     body c.mask_of-mask.ensures c.protect.ensures
