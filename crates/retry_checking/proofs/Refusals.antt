@@ -13,11 +13,13 @@ use Rattle.header_forms.specs.Rules.{Rules}
 use Rattle.header_forms.specs.Forms.{long_form, formed}
 use Rattle.header_forms.proofs.Forms.{formed-fits}
 use Rattle.header_fields.specs.Fields.{Place, behind, longest_id, tag_length}
-use Rattle.header_long.specs.LongHeader.{Long, long}
+use Rattle.header_long.specs.LongHeader.{Long}
+use Rattle.header_fields.specs.declared.Part.{Part}
 use Rattle.header_fields.proofs.Fields.{Within}
 use Rattle.header_long.proofs.LongHeaders.{LongThere, long-there}
 use Rattle.octets.specs.Octets.{same}
 use Rattle.retry_tag.specs.Tag.{retry_tag}
+use Rattle.retry_checking.specs.Answers.{retry_place}
 use Rattle.retry_checking.specs.Retry.{RetryFields, token_at, retries, retry_header, retry_checked}
 
 -- ---- the token and the tag behind it
@@ -104,3 +106,9 @@ retry-there rules original d is =
       source = begin.source;
       token = token-there d (behind l.0.source) (sym t.1);
     })
+
+-- each part stands within the datagram
+pub part-there : (part : Part) {d : List ℕ} {f : RetryFields} → RetryThere d f → behind (retry_place part f) ≤ length d
+part-there Part.Destination there = there.destination.inside
+part-there Part.Source there = there.source.inside
+part-there Part.Token there = omega (arith, there.token.end)

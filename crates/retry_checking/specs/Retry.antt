@@ -1,7 +1,6 @@
 -- Retry packets, checked: RFC 9000 section 17.2.5 and RFC 9001 section 5.8, in the order of docs/SCOPE.md, "Order of refusals".
 use Rattle.std.specs.Prelude.{ℕ, ◌-◌, List, true, leb, length, take, drop}
 use Rattle.octets.specs.Outcome.{Outcome, given, unless, ◌>>=◌, ◌>>◌}
-use Rattle.versions.specs.Versions.{version}
 use Rattle.header_fields.specs.Fields.{Place, behind, longest_id, whole, tag_length}
 use Rattle.header_forms.specs.Rules.{Rules}
 use Rattle.header_forms.specs.Forms.{long_form, formed}

@@ -9,13 +9,15 @@ use Rattle.octets.proofs.Buffers.{refused-placed, given-placed}
 use Rattle.header_forms.specs.Rules.{in_force}
 use Rattle.retry_writing.specs.Written.{retry_written}
 use Rattle.retry_writing.specs.Answers.{WriteRetry}
-use Rattle.retry_writing.specs.declared.Writing.TheVariants as Writing
+use Rattle.std.specs.Prelude.{Ok, Err}
+use Rattle.octets.specs.Refusals.{number_of}
+use Rattle.octets.specs.declared.refusal.Refusal.{Refusal}
 
 module _ {v : ℕ} {original destination source token : List ℕ} {low : ℕ} {out : List ℕ} where
-  pub write-refused : {n : ℕ} → retry_written in_force v original destination source token low (length out) ≡ refused n
-      → WriteRetry v original destination source token low out (Writing.Refused n) out
-  write-refused is = let stays = refused-placed out is in record { answer = stays.0; output = stays.1 }
+  pub write-refused : (why : Refusal) → retry_written in_force v original destination source token low (length out) ≡ refused (number_of why)
+      → WriteRetry v original destination source token low out (Err why) out
+  write-refused why is = let stays = refused-placed out is in record { answer = stays.0; output = stays.1 }
 
   pub write-made : {packet after : List ℕ} {n : ℕ} → retry_written in_force v original destination source token low (length out) ≡ given packet
-      → Begins packet out after n → WriteRetry v original destination source token low out (Writing.Written n) after
+      → Begins packet out after n → WriteRetry v original destination source token low out (Ok n) after
   write-made is begins = let stands = given-placed is begins in record { answer = stands.0; output = stands.1 }

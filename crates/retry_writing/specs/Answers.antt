@@ -1,18 +1,18 @@
 -- The code's answers as what they stand for, and what writing promises.
-use Rattle.std.specs.Prelude.{ℕ, ◌+◌, ◌≤◌, ◌≡◌, List, length}
-use Rattle.octets.specs.Outcome.{Outcome, refused, given}
+use Rattle.std.specs.Prelude.{ℕ, ◌+◌, ◌≤◌, ◌≡◌, List, length, Result}
+use Rattle.octets.specs.Outcome.{Outcome}
 use Rattle.octets.specs.Octets.{placed, length_given}
+use Rattle.octets.specs.Refusals.{outcome}
+use Rattle.octets.specs.declared.refusal.Refusal.{Refusal}
 use Rattle.header_forms.specs.Rules.{in_force}
 use Rattle.header_fields.specs.Fields.{longest_id, tag_length}
 use Rattle.retry_writing.specs.Written.{retry_written}
-use Rattle.retry_writing.specs.declared.Writing.{Writing}
-use Rattle.retry_writing.specs.declared.Writing.TheVariants as Writing
 
-abbrev pub writing_answer : Writing → Outcome ℕ
-writing_answer (Writing.Refused n) = refused n
-writing_answer (Writing.Written n) = given n
+-- the packet's length
+abbrev pub writing_answer : Result ℕ Refusal → Outcome ℕ
+writing_answer = outcome (λ n. n)
 
-pub record WriteRetry (v : ℕ) (original destination source token : List ℕ) (low : ℕ) (before : List ℕ) (r : Writing) (after : List ℕ) : Type 0 where
+pub record WriteRetry (v : ℕ) (original destination source token : List ℕ) (low : ℕ) (before : List ℕ) (r : Result ℕ Refusal) (after : List ℕ) : Type 0 where
   pub answer : writing_answer r ≡ length_given (retry_written in_force v original destination source token low (length before))
   pub output : after ≡ placed (retry_written in_force v original destination source token low (length before)) before
 

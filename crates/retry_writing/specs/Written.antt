@@ -1,6 +1,6 @@
 -- Retry packets, written: RFC 9000 section 17.2.5, in the order of docs/SCOPE.md, "Order of refusals".
 use Rattle.std.specs.Prelude.{ℕ, ◌%◌, List, ◌∷◌, ◌++◌, leb, length}
-use Rattle.octets.specs.Outcome.{Outcome, given, unless, ◌>>=◌, ◌>>◌}
+use Rattle.octets.specs.Outcome.{Outcome, given, unless, ◌>>◌}
 use Rattle.versions.specs.Versions.{known, version}
 use Rattle.header_forms.specs.Rules.{Rules}
 use Rattle.header_fields.specs.Fields.{longest_id}
