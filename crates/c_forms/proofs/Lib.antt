@@ -1,3 +1,2 @@
 pub mod Answering
-mod Choices
 pub mod Numbered

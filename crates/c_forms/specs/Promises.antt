@@ -9,12 +9,12 @@ answered (refused n) = n
 answered (given a) = 0
 
 -- a report afterwards: that of what is given; refused, as it was
-abbrev pub told : {A : Type 0} → (A → List ℕ) → Outcome A → (before : List ℕ) → List ℕ
+abbrev pub told : {A T : Type 0} → (A → List T) → Outcome A → (before : List T) → List T
 told report (refused n) before = before
 told report (given a) before = report a
 
 -- the answer and the report of an outcome
-pub record Answers {A : Type 0} (o : Outcome A) (report_of : A → List ℕ) (before : List ℕ) (r : ℕ) (report : List ℕ) : Type 0 where
+pub record Answers {A T : Type 0} (o : Outcome A) (report_of : A → List T) (before : List T) (r : ℕ) (report : List T) : Type 0 where
   pub answer : r ≡ answered o
   pub reported : report ≡ told report_of o before
 

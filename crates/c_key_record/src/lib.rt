@@ -8,6 +8,7 @@ ghost use Rattle.c_key_record.specs.Layout.{key_bytes, keys_in};
 use protection::Keys;
 
 // The bytes of a record.
+// Kept: no From: the language has it beside one of the two types, and `Keys` would then know how C lays it out. A function here is plainer.
 pub type KeyRecord = [u8; 49];
 
 // The keys that a record holds.
@@ -15,11 +16,11 @@ pub fn load_keys(bytes: KeyRecord) -> Keys
     ensures { keys_of result ≡ keys_in bytes }
 {
     let mut key = [0u8; 16];
-    octets::copy(&mut key, 0, &bytes[5..21]);
+    key.copy_from_slice(&bytes[5..21]);
     let mut iv = [0u8; 12];
-    octets::copy(&mut iv, 0, &bytes[21..33]);
+    iv.copy_from_slice(&bytes[21..33]);
     let mut hp = [0u8; 16];
-    octets::copy(&mut hp, 0, &bytes[33..49]);
+    hp.copy_from_slice(&bytes[33..49]);
     Keys {
         version: octets::word(&bytes, 0),
         level: bytes[4],
@@ -30,14 +31,14 @@ pub fn load_keys(bytes: KeyRecord) -> Keys
 }
 
 // The record of keys.
-pub fn key_bytes(version: u32, level: u8, key: &[u8; 16], iv: &[u8; 12], hp: &[u8; 16]) -> KeyRecord
-    ensures { result ≡ key_bytes (record { version = version; level = level; key = key.now; iv = iv.now; hp = hp.now }) }
+pub fn key_bytes(keys: Keys) -> KeyRecord
+    ensures { result ≡ key_bytes (keys_of keys) }
 {
     let mut bytes = [0u8; 49];
-    octets::store(&mut bytes, 0, 4, version as u64);
-    bytes[4] = level;
-    octets::copy(&mut bytes, 5, key);
-    octets::copy(&mut bytes, 21, iv);
-    octets::copy(&mut bytes, 33, hp);
+    octets::store(&mut bytes, 0, 4, keys.version as u64);
+    bytes[4] = keys.level;
+    octets::copy(&mut bytes, 5, &keys.key);
+    octets::copy(&mut bytes, 21, &keys.iv);
+    octets::copy(&mut bytes, 33, &keys.hp);
     bytes
 }

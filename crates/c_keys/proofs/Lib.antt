@@ -1,2 +1,1 @@
-mod Choices
 pub mod KeysAnswered

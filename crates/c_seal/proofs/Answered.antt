@@ -3,6 +3,7 @@ use Prim.Native.Nat.{ℕ}
 use mathlib.Core.Path.{◌≡◌, subst}
 use mathlib.Core.List.{List}
 use lib.ListN.{length}
+use Rattle.std.specs.Prelude.{Result}
 use Rattle.octets.specs.Outcome.{Outcome}
 use Rattle.numbers_shortening.specs.Shortening.{Acknowledged}
 use Rattle.header_forms.specs.Rules.{in_force}
@@ -12,12 +13,12 @@ use Rattle.packets.specs.Packet.{sealed}
 use Rattle.protection.specs.AesGcm.{aes_gcm}
 use Rattle.seal.specs.Sealing.{Seal}
 use Rattle.seal_judging.specs.Judging.{sealing_answer}
-use Rattle.seal_judging.specs.declared.Sealing.{Sealing}
+use Rattle.octets.specs.declared.refusal.Refusal.{Refusal}
 use Rattle.c_forms.specs.Promises.{Answers, Writes}
 use Rattle.c_forms.proofs.Answering.{writing}
 use Rattle.c_seal.specs.Promises.{length_alone}
 
-module _ {k k' : Keys} {a a' : Acknowledged} {p : Plain} {buffer : List ℕ} {r : Sealing} {then : List ℕ}
+module _ {k k' : Keys} {a a' : Acknowledged} {p : Plain} {buffer : List ℕ} {r : Result ℕ Refusal} {then : List ℕ}
     (same_keys : k ≡ k') (same-acknowledged : a ≡ a') (answer : Seal k a p buffer r then) where
   meant : Seal k' a' p buffer r then
   meant = subst (λ (x : Keys). Seal x a' p buffer r then) same_keys (subst (λ (x : Acknowledged). Seal k x p buffer r then) same-acknowledged answer)

@@ -1,6 +1,7 @@
 // The library for C: each entry point on numbers and lent bytes. It answers 0 or the refusal's number, and reports only with 0.
 // To C a slice is a pointer and a length, and a reference a pointer alone (include/driftwicket.h). An archive exports the functions
 // of its own crate alone: each is one call to the room of its family.
+// Kept: parameters as C hands them over, here and in the rooms that have them too, for the header fixes each.
 #![tactic(auto)]
 
 ghost use Rattle.header_writing.specs.Written.{holding, absent};
@@ -12,6 +13,9 @@ ghost use Rattle.c_header.specs.Promises.{DwReadHeader};
 ghost use Rattle.c_retry.specs.Promises.{DwWriteRetry, DwCheckRetry};
 
 use c_key_record::KeyRecord;
+use header_writing::Plain;
+use numbers::FullPn;
+use retry_writing::Retry;
 
 // RFC 9000 section 16: reports the value of the integer at the start, and the bytes it took.
 #[unsafe(no_mangle)]
@@ -105,49 +109,43 @@ pub extern "C" fn dw_seal(
 ) -> u32
     ensures { DwSeal keys.now any_acknowledged acknowledged (record { destination = destination.now; source = source.now; token = holding token.now; payload = payload.now; packet_number = number; number_length = length }) report.old result report.new out.old out.new }
 {
-    c_seal::seal(
-        keys,
-        number,
-        any_acknowledged,
-        acknowledged,
-        length,
+    let plain = Plain {
+        number: FullPn(number),
+        number_length: length,
         destination,
         source,
-        token,
+        token: Some(token),
         payload,
-        out,
-        report,
-    )
+    };
+    c_seal::seal(keys, any_acknowledged, acknowledged, plain, out, report)
 }
 
-// RFC 9001 section 5: seals a 0-RTT or Handshake packet, by the level of the keys, and reports its length.
+// RFC 9001 section 5: seals a 0-RTT or Handshake packet, by the level of the keys, and reports its length. The lifetime is named because
+// the check doesn't cover a struct with one lifetime for several of a signature.
 #[unsafe(no_mangle)]
-pub extern "C" fn dw_seal_long(
+pub extern "C" fn dw_seal_long<'a>(
     keys: &KeyRecord,
     number: u64,
     any_acknowledged: u32,
     acknowledged: u64,
     length: usize,
-    destination: &[u8],
-    source: &[u8],
-    payload: &[u8],
+    destination: &'a [u8],
+    source: &'a [u8],
+    payload: &'a [u8],
     out: &mut [u8],
     report: &mut [u64; 1],
 ) -> u32
     ensures { DwSeal keys.now any_acknowledged acknowledged (record { destination = destination.now; source = source.now; token = absent; payload = payload.now; packet_number = number; number_length = length }) report.old result report.new out.old out.new }
 {
-    c_seal::seal_long(
-        keys,
-        number,
-        any_acknowledged,
-        acknowledged,
-        length,
+    let plain = Plain {
+        number: FullPn(number),
+        number_length: length,
         destination,
         source,
+        token: None,
         payload,
-        out,
-        report,
-    )
+    };
+    c_seal::seal(keys, any_acknowledged, acknowledged, plain, out, report)
 }
 
 // RFC 9001 section 5: opens the packet that begins a datagram, and reports its number, the number's length, the header's and the
@@ -188,16 +186,15 @@ pub extern "C" fn dw_write_retry(
 ) -> u32
     ensures { DwWriteRetry version original.now destination.now source.now token.now low_bits report.old result report.new out.old out.new }
 {
-    c_retry::write_retry(
+    let retry = Retry {
         version,
         original,
         destination,
         source,
         token,
         low_bits,
-        out,
-        report,
-    )
+    };
+    c_retry::write_retry(retry, out, report)
 }
 
 // RFC 9001 section 5.8: checks a Retry, and reports the version, and place and length of both IDs and of the token.

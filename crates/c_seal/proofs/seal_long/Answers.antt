@@ -1,6 +1,0 @@
--- With the keys and the acknowledged number that C's arguments stand for.
-use Rattle.c_seal.proofs.Answered.{seal-told}
-use Rattle.c_seal.proofs.seal_long.Goals as goal
-
-pub returns : goal.returns
-returns c = seal-told c.load_keys.ensures c.acknowledged_by.ensures c.seal_long-answer.ensures c.report_sealing.ensures
