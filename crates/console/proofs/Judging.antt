@@ -2,13 +2,12 @@
 use Prim.Native.Nat.{ℕ, ◌+◌, ◌-◌, ◌<◌, ◌≤◌}
 use mathlib.Core.Bool.{true}
 use mathlib.Core.List.{List, []}
-use mathlib.Core.Path.{◌≡◌, subst}
+use mathlib.Core.Path.{◌≡◌}
 use native.Mathlib.Omega.{arith}
 use borrow.Author.Tests.{le-leb, lt-leb, eq-eqb, ne_eqb}
 use lib.Dec.{eqb}
 use lib.ListN.{length, get_or}
 use Rattle.octets.specs.Octets.{part}
-use Rattle.digits_reading.specs.Digits.{Decoded}
 use Rattle.terminal_words.specs.Words.{word_count}
 use Rattle.console.specs.Answers.{inside}
 use Rattle.console.specs.Files.{is_comment}
@@ -34,7 +33,3 @@ module _ (d : List ℕ) (at n : ℕ) where
   there h =
       let long : at + n - at ≡ n = omega arith in
       rw (le-leb (at + n) (length d) h, long)
-
--- ---- the bytes of a text that is another's
-pub decoded-as : {t u before after : List ℕ} {n : ℕ} → t ≡ u → Decoded t before after n → Decoded u before after n
-decoded-as {before = before} {after = after} {n = n} e d = subst (λ (x : List ℕ). Decoded x before after n) e d

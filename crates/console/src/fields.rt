@@ -1,12 +1,12 @@
 // The words of a call, read.
-ghost use Rattle.std.specs.Prelude.{◌≡◌};
+ghost use Rattle.std.specs.Prelude.{◌≡◌, length, take};
 ghost use Rattle.std.specs.Counts.{IsPrefixLen};
 ghost use Rattle.digits_numbers.specs.Numbers.{number_of};
-ghost use Rattle.digits_reading.specs.Digits.{Decoded};
+ghost use Rattle.digits_reading.specs.Digits.{pairs, Decoded};
 ghost use Rattle.terminal_words.specs.Words.{word_of};
 ghost use Rattle.console.specs.Fields.{value_or0};
 
-use digits_numbers::{Number, read_number};
+use digits_numbers::read_number;
 use digits_reading::decode;
 use terminal_words::word;
 
@@ -17,11 +17,7 @@ pub const END: u8 = 0;
 pub fn value(text: &[u8]) -> u64
     ensures { result ≡ value_or0 (number_of text.now) }
 {
-    match read_number(text) {
-        Number::Value(value) => value,
-        Number::NoNumber => 0,
-        Number::TooLarge => 0,
-    }
+    read_number(text).unwrap_or(0)
 }
 
 // The number that a word of a call spells, and 0 where it spells none.
@@ -31,11 +27,19 @@ pub fn number(line: &[u8], index: usize) -> u64
     value(word(line, index, END))
 }
 
-// The bytes that a word of a call spells, put at the buffer's start; how many there are. A page holds more than any field may have,
-// so that a longer word is refused as it would be whole.
-pub fn bytes(line: &[u8], index: usize, buffer: &mut [u8]) -> usize
+// The bytes that a word of a call spells, put at the buffer's start as far as there is room; how many there are.
+fn spell(line: &[u8], index: usize, buffer: &mut [u8]) -> usize
     ensures prefix_len { IsPrefixLen result buffer.new }
     ensures decoded { Decoded (word_of 0 line.now index) buffer.old buffer.new result }
 {
     decode(word(line, index, END), buffer)
+}
+
+// The bytes that a word of a call spells, at the start of a buffer as far as there is room. A page holds more than any field may have,
+// so that a longer word is refused as it would be whole.
+pub fn bytes<'a>(line: &[u8], index: usize, buffer: &'a mut [u8]) -> &'a [u8]
+    ensures { result.now ≡ take (length buffer.old) (pairs (word_of 0 line.now index)) }
+{
+    let length = spell(line, index, buffer);
+    &buffer[..length]
 }

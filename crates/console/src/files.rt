@@ -46,9 +46,9 @@ pub fn open<R: Files + Input>(
     if let Some(file) = file_of(rt, path) {
         return Some(Readable::File(file));
     }
-    terminal::say(page, b"cannot open ");
-    terminal::say(page, path);
-    terminal::say(page, b"\n");
+    page.say(b"cannot open ");
+    page.say(path);
+    page.say(b"\n");
     None
 }
 
@@ -64,24 +64,17 @@ pub fn is_comment(text: &[u8]) -> bool
 
 // A line that is too long is passed over.
 pub fn too_long(page: &mut Page, line: u64) {
-    terminal::say(page, b"line ");
-    terminal::say_number(page, line);
-    terminal::say(page, b" is too long\n");
+    page.show(format_args!("line {line} is too long\n"));
 }
 
 // A line cannot be read.
 pub fn unread(page: &mut Page, line: u64) {
-    terminal::say(page, b"line ");
-    terminal::say_number(page, line);
-    terminal::say(page, b" cannot be read\n");
+    page.show(format_args!("line {line} cannot be read\n"));
 }
 
 // The number behind one that counts lines or datagrams; the largest stays.
 pub fn next(number: u64) -> u64
     ensures { result ≡ min (number + 1) (2 ^ 64 - 1) }
 {
-    if number == u64::MAX {
-        return number;
-    }
-    number + 1
+    number.saturating_add(1)
 }

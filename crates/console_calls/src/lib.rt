@@ -9,7 +9,6 @@ use console::fields::END;
 use console_keys::is_asked;
 use console_words::wrong;
 use terminal::Page;
-use terminal::print::less;
 use terminal_words::{count, same, word};
 
 // What the manual's names mean.
@@ -25,39 +24,33 @@ FILE has a datagram, or a call for a script, on each line; # starts a comment; -
 fn usage_of<'a>(manual: &'a [u8], command: &[u8]) -> &'a [u8]
     ensures { result.now ≡ usage_of manual.now command.now }
 {
-    let lines = count(manual, b'\n');
-    let mut i: usize = 0;
-    while i < lines {
+    for i in 0..count(manual, b'\n') {
         let usage = word(manual, i, b'\n');
         if same(word(usage, 1, b' '), command) {
             return usage;
         }
-        i += 1;
     }
     &manual[..0]
 }
 
 // The whole manual, and what its names mean.
 fn show(page: &mut Page, manual: &[u8]) {
-    terminal::say(page, b"usage:\n");
-    terminal::say(page, manual);
-    terminal::say(page, &NOTES);
+    page.say(b"usage:\n");
+    page.say(manual);
+    page.say(&NOTES);
 }
 
 // Whether there are as many words behind a command as the manual's line has; where not, it is said how many.
 fn are_enough(page: &mut Page, line: &[u8], usage: &[u8]) -> bool
     ensures { result ≡ enough line.now usage.now }
 {
-    let given = less(count(line, END), 1);
-    let wanted = less(count(usage, b' '), 2);
+    let given = count(line, END).saturating_sub(1);
+    let wanted = count(usage, b' ').saturating_sub(2);
     if given == wanted {
         return true;
     }
     wrong(page, b"call");
-    terminal::say_number(page, given as u64);
-    terminal::say(page, b" words behind the command, which takes ");
-    terminal::say_number(page, wanted as u64);
-    terminal::say(page, b"\n");
+    page.show(format_args!("{given} words behind the command, which takes {wanted}\n"));
     false
 }
 
@@ -66,23 +59,20 @@ fn are_right(page: &mut Page, line: &[u8], usage: &[u8]) -> bool
     requires { enough line.now usage.now ≡ true }
     ensures { result ≡ are_right (words_from 0 line.now 1) (words_from 32 usage.now 2) }
 {
-    let given = count(line, END);
-    let mut i: usize = 1;
-    while i < given {
+    for i in 1..count(line, END) {
         if !is_asked(page, word(line, i, END), word(usage, i + 1, b' ')) {
             return false;
         }
-        i += 1;
     }
     true
 }
 
 // A word that is no command; where there is none, nothing is wrong with it.
 fn unknown(page: &mut Page, command: &[u8]) {
-    if 0 < command.len() {
+    if !command.is_empty() {
         wrong(page, b"call");
-        terminal::say(page, command);
-        terminal::say(page, b" is no command\n");
+        page.say(command);
+        page.say(b" is no command\n");
     }
 }
 
@@ -92,7 +82,7 @@ pub fn is_well_made(page: &mut Page, line: &[u8], manual: &[u8]) -> bool
 {
     let command = word(line, 0, END);
     let usage = usage_of(manual, command);
-    if usage.len() == 0 {
+    if usage.is_empty() {
         unknown(page, command);
         show(page, manual);
         return false;
@@ -102,8 +92,8 @@ pub fn is_well_made(page: &mut Page, line: &[u8], manual: &[u8]) -> bool
             return true;
         }
     }
-    terminal::say(page, b"usage: ");
-    terminal::say(page, usage);
-    terminal::say(page, b"\n");
+    page.say(b"usage: ");
+    page.say(usage);
+    page.say(b"\n");
     false
 }

@@ -16,6 +16,7 @@ const SECRET: usize = 64;
 fn is_level(page: &mut Page, text: &[u8]) -> bool
     ensures { result ≡ is_level text.now }
 {
+    // Kept: as is_side of console_words.
     if same(text, b"initial") {
         return true;
     }
@@ -26,7 +27,7 @@ fn is_level(page: &mut Page, text: &[u8]) -> bool
         return true;
     }
     wrong(page, b"LEVEL");
-    terminal::say(page, b"neither initial nor 0-rtt nor handshake\n");
+    page.say(b"neither initial nor 0-rtt nor handshake\n");
     false
 }
 
@@ -37,9 +38,9 @@ fn is_secret(page: &mut Page, text: &[u8]) -> bool
     if text.len() == SECRET {
         return is_hex(page, text, b"SECRET");
     }
+    let all = text.len();
     wrong(page, b"SECRET");
-    terminal::say_number(page, text.len() as u64);
-    terminal::say(page, b" characters, where 64 hex digits are 32 bytes\n");
+    page.show(format_args!("{all} characters, where 64 hex digits are 32 bytes\n"));
     false
 }
 
@@ -57,6 +58,7 @@ fn is_origin(page: &mut Page, text: &[u8]) -> bool
 }
 
 // Whether a word is what the manual's name for it asks; where not, it is said why.
+// Kept: as is_side of console_words.
 pub fn is_asked(page: &mut Page, text: &[u8], name: &[u8]) -> bool
     ensures { result ≡ is_asked text.now name.now }
 {

@@ -1,11 +1,10 @@
 -- A word of a call, judged by the name that the manual has for it.
-use Rattle.std.specs.Prelude.{ℕ, ◌-◌, ◌%◌, ◌^◌, Bool, false, cond, ◌&&◌, ◌||◌, List, eqb, leb, length}
+use Rattle.std.specs.Prelude.{ℕ, ◌-◌, ◌%◌, ◌^◌, Bool, false, cond, ◌&&◌, ◌||◌, List, eqb, leb, length, Result, Ok, Err}
 use Rattle.octets.specs.Octets.{same}
 use Rattle.octets.specs.Text.{ascii}
 use Rattle.digits_reading.specs.Digits.{run}
 use Rattle.digits_numbers.specs.Numbers.{number_of}
-use Rattle.digits_numbers.specs.declared.Number.{Number}
-use Rattle.digits_numbers.specs.declared.Number.TheVariants.{Value, NoNumber, TooLarge}
+use Rattle.digits_numbers.specs.declared.NumberError.{NumberError}
 use Rattle.console.specs.Fields.{dash}
 
 -- ---- a word
@@ -14,10 +13,9 @@ unfoldable pub is_hex : List ℕ → Bool
 is_hex t = same t dash || (leb (length t) (run 16 t) && eqb (length t % 2) 0)
 
 -- whether a number was read, and is a largest one or below
-abbrev pub at_most : ℕ → Number → Bool
-at_most largest (Value n) = leb n largest
-at_most largest NoNumber = false
-at_most largest TooLarge = false
+abbrev pub at_most : ℕ → Result ℕ NumberError → Bool
+at_most largest (Ok n) = leb n largest
+at_most largest (Err e) = false
 
 -- whether it spells a number up to a largest one
 abbrev pub is_number : ℕ → List ℕ → Bool

@@ -4,7 +4,7 @@
 ghost use Rattle.std.specs.Prelude.{◌≡◌};
 ghost use Rattle.console_words.specs.Words.{is_hex, is_number, is_side, is_count, is_right};
 
-use digits_numbers::{Number, read_number};
+use digits_numbers::{NumberError, read_number};
 use digits_reading::digits;
 use terminal::Page;
 use terminal_words::same;
@@ -14,9 +14,9 @@ pub const VERSIONS: u64 = 0xffffffff;
 
 // What is wrong with something of a name follows.
 pub fn wrong(page: &mut Page, name: &[u8]) {
-    terminal::say(page, b"wrong ");
-    terminal::say(page, name);
-    terminal::say(page, b": ");
+    page.say(b"wrong ");
+    page.say(name);
+    page.say(b": ");
 }
 
 // Whether a word is hex, or the mark for nothing; where not, it is said why.
@@ -28,18 +28,15 @@ pub fn is_hex(page: &mut Page, text: &[u8], name: &[u8]) -> bool
     }
     let good = digits(text, 16);
     if good < text.len() {
+        let (place, all) = (good as u64 + 1, text.len());
         wrong(page, name);
-        terminal::say(page, b"character ");
-        terminal::say_number(page, good as u64 + 1);
-        terminal::say(page, b" of ");
-        terminal::say_number(page, text.len() as u64);
-        terminal::say(page, b" is no hex digit\n");
+        page.show(format_args!("character {place} of {all} is no hex digit\n"));
         return false;
     }
     if text.len() % 2 != 0 {
+        let all = text.len();
         wrong(page, name);
-        terminal::say_number(page, text.len() as u64);
-        terminal::say(page, b" hex digits, an odd count\n");
+        page.show(format_args!("{all} hex digits, an odd count\n"));
         return false;
     }
     true
@@ -50,25 +47,16 @@ fn is_number(page: &mut Page, text: &[u8], name: &[u8], largest: u64) -> bool
     ensures { result ≡ is_number largest text.now }
 {
     match read_number(text) {
-        Number::Value(value) => {
-            if value <= largest {
-                return true;
-            }
-        }
-        Number::NoNumber => {
+        Ok(value) if value <= largest => return true,
+        Err(NumberError::NoNumber) => {
             wrong(page, name);
-            terminal::say(
-                page,
-                b"no number, which is decimal digits, or 0x and hex digits\n",
-            );
+            page.say(b"no number, which is decimal digits, or 0x and hex digits\n");
             return false;
         }
-        Number::TooLarge => {}
+        _ => {}
     }
     wrong(page, name);
-    terminal::say(page, b"too large, at most ");
-    terminal::say_number(page, largest);
-    terminal::say(page, b"\n");
+    page.show(format_args!("too large, at most {largest}\n"));
     false
 }
 
@@ -76,6 +64,7 @@ fn is_number(page: &mut Page, text: &[u8], name: &[u8], largest: u64) -> bool
 fn is_side(page: &mut Page, text: &[u8], name: &[u8]) -> bool
     ensures { result ≡ is_side text.now }
 {
+    // Kept: tried as a match on byte strings, whose proof didn't close (a goal for each character that may differ, over a dozen here).
     if same(text, b"client") {
         return true;
     }
@@ -83,11 +72,12 @@ fn is_side(page: &mut Page, text: &[u8], name: &[u8]) -> bool
         return true;
     }
     wrong(page, name);
-    terminal::say(page, b"neither client nor server\n");
+    page.say(b"neither client nor server\n");
     false
 }
 
 // Whether a name of the manual asks for a number.
+// Kept: as is_side, and so is is_right.
 fn is_count(name: &[u8]) -> bool
     ensures { result ≡ is_count name.now }
 {

@@ -1,18 +1,22 @@
 -- The number that digits spell, read one digit a turn.
-use Prim.Native.Nat.{ℕ, ◌+◌, ◌-◌, ◌*◌, ◌/◌, ◌^◌, ◌<◌, ◌≤◌}
-use mathlib.Core.Bool.{Bool, true, false, false≢true}
+use Prim.Native.Nat.{ℕ, ◌+◌, ◌-◌, ◌*◌, ◌^◌, ◌<◌, ◌≤◌}
+use mathlib.Core.Bool.{Bool, ◌&&◌, true, false, false≢true, and-true}
 use mathlib.Core.List.{List, [], ◌∷◌}
 use mathlib.Core.Path.{◌≡◌, refl, sym, ap, ◌∙◌}
-use native.Mathlib.Nat.{le-div_iff_mul-le, div-lt_iff_lt-mul, mul-le-mul_left}
+use native.Mathlib.Nat.{mul-le-mul_left}
 use native.Mathlib.Numerals.{add-one}
 use native.Mathlib.Omega.{arith}
-use borrow.Author.Tests.{lt-ltb, le-ltb, le-leb, lt-leb, eq-eqb, ne_eqb, ltb-true, ltb-false}
+use borrow.Author.Tests.{lt-ltb, le-ltb, le-leb, lt-leb, eq-eqb, ne_eqb, eqb-true, eqb-false, ltb-true, ltb-false}
 use lib.Dec.{eqb, ltb}
 use lib.ListN.{length, get_or, take, drop, drop_of_length-le, length-drop}
 use lib.Seq.{drop-cons, take_all}
 use Rattle.digits_reading.specs.Digits.{value_of, run}
 use Rattle.digits_numbers.specs.Numbers.{read_on, spelled, fitting, number_in, marked, number_of}
-use Rattle.digits_numbers.specs.declared.Number.TheVariants.{Value, NoNumber, TooLarge}
+use Rattle.digits_numbers.specs.declared.NumberError.TheVariants.{NoNumber, TooLarge}
+use Rattle.std.specs.Prelude.{Option, Some, None, Ok, Err, SomeIff}
+use Rattle.std.specs.Option.{ok_or}
+use Rattle.std.specs.List.{starts_with}
+use Rattle.digits_numbers.specs.declared.NumberError.{NumberError}
 
 -- more digits make no smaller number
 pub grows : (base n : ℕ) (t : List ℕ) → 1 ≤ base → n ≤ read_on base n t
@@ -32,28 +36,30 @@ module _ (base n : ℕ) (t : List ℕ) (i : ℕ) where
   unfolding read_on
   read-ends l = ap (read_on base n) (drop_of_length-le t l)
 
--- ---- the next digit fits, or not
-module _ (base n d : ℕ) (some : 1 ≤ base) (small : d < 256) where
-  pub next_fits : n ≤ (2 ^ 64 - 1 - d) / base → n * base + d < 2 ^ 64
-  next_fits h = let p : n * base ≤ 2 ^ 64 - 1 - d = (le-div_iff_mul-le some).0 h in omega arith
+-- ---- a number that may be too large, where it is asked for by `ok_or`
+module _ (P : Type 0) (v : ℕ) (e : NumberError) where
+  pub was_too_large : {why : NumberError} (o : Option ℕ) → SomeIff o P v → ok_or o e ≡ Err why → P → ⊥
+  was_too_large None not h = not
+  was_too_large (Some x) is h = cc
 
-  pub next-wraps : (2 ^ 64 - 1 - d) / base < n → 2 ^ 64 ≤ n * base + d
-  next-wraps h = let p : 2 ^ 64 - 1 - d < n * base = (div-lt_iff_lt-mul some).0 h in omega arith
+  pub was_there : {x : ℕ} (o : Option ℕ) → SomeIff o P v → ok_or o e ≡ Ok x → x ≡ v
+  was_there None not h = cc
+  was_there (Some y) is h = let known = is.1 in cc
 
 -- ---- what is answered
-pub fits : (base : ℕ) (t : List ℕ) → spelled base t < 2 ^ 64 → fitting base t ≡ Value (spelled base t)
+pub fits : (base : ℕ) (t : List ℕ) → spelled base t < 2 ^ 64 → fitting base t ≡ Ok (spelled base t)
 unfolding fitting
 fits base t h = rw (lt-ltb (spelled base t) (2 ^ 64) h)
 
-pub wraps : (base : ℕ) (t : List ℕ) → 2 ^ 64 ≤ spelled base t → fitting base t ≡ TooLarge
+pub wraps : (base : ℕ) (t : List ℕ) → 2 ^ 64 ≤ spelled base t → fitting base t ≡ Err TooLarge
 unfolding fitting
 wraps base t h = rw (le-ltb (spelled base t) (2 ^ 64) h)
 
-pub no_digit : (base : ℕ) (t : List ℕ) → run base t < length t → number_in base t ≡ NoNumber
+pub no_digit : (base : ℕ) (t : List ℕ) → run base t < length t → number_in base t ≡ Err NoNumber
 unfolding number_in
 no_digit base t h = rw (le-leb 1 (length t) (omega arith), lt-leb (length t) (run base t) h)
 
-pub nothing : (base : ℕ) (t : List ℕ) → length t < 1 → number_in base t ≡ NoNumber
+pub nothing : (base : ℕ) (t : List ℕ) → length t < 1 → number_in base t ≡ Err NoNumber
 unfolding number_in
 nothing base t h = rw (lt-leb 1 (length t) h)
 
@@ -62,18 +68,26 @@ unfolding number_in
 all_digits base t h k = rw (le-leb 1 (length t) h, le-leb (length t) (run base t) k)
 
 -- ---- the mark of hex
+turned : (a b : ℕ) → eqb a b ≡ eqb b a
+turned a b = by (eqb a b) refl
+  where
+    by : (t : Bool) → eqb a b ≡ t → eqb a b ≡ eqb b a
+    by true p = p ∙ sym (eq-eqb b a (sym (eqb-true a b p)))
+    by false p = p ∙ sym (ne_eqb b a (λ e. eqb-false a b p (sym e)))
+
 module _ (t : List ℕ) where
   pub too_short : length t ≤ 2 → marked t ≡ false
   unfolding marked
   too_short h = simp (le-ltb 2 (length t) h)
 
-  pub no_zero : 2 < length t → (get_or t 0 0 ≡ 48 → ⊥) → marked t ≡ false
+  pub by-letters : 2 < length t → starts_with eqb t (48 ∷ 120 ∷ []) ≡ marked t
   unfolding marked
-  no_zero l h = simp (lt-ltb 2 (length t) l, ne_eqb (get_or t 0 0) 48 h)
-
-  pub by-letter : 2 < length t → get_or t 0 0 ≡ 48 → marked t ≡ eqb (get_or t 1 0) 120
-  unfolding marked
-  by-letter l h = simp (lt-ltb 2 (length t) l, eq-eqb (get_or t 0 0) 48 h)
+  by-letters l = rw (lt-ltb 2 (length t) l) (both t l)
+    where
+      both : (s : List ℕ) → 2 < length s → starts_with eqb s (48 ∷ 120 ∷ []) ≡ (eqb (get_or s 0 0) 48 && eqb (get_or s 1 0) 120)
+      both [] h = absurd (omega arith)
+      both (a ∷ []) h = absurd (omega arith)
+      both (a ∷ b ∷ s) h = rw (turned 48 a, turned 120 b, and-true (eqb b 120)) refl
 
   pub marked-long : marked t ≡ true → 2 < length t
   marked-long m = by (ltb 2 (length t)) refl

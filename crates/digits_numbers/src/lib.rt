@@ -6,62 +6,47 @@ ghost use Rattle.digits_numbers.specs.Numbers.{fitting, number_in, marked, numbe
 
 use digits_reading::{digits, value};
 
-// What a text is as a number: its value; none, where it is empty or has a character that is no digit; or one of more than 64 bits.
-#[derive(Clone, Copy)]
-pub enum Number {
-    Value(u64),
+// Why a text spells no number that is read: it is empty or has a character that is no digit; or the number has more than 64 bits.
+#[derive(Clone, Copy, Debug, PartialEq, Eq)]
+pub enum NumberError {
     NoNumber,
     TooLarge,
 }
 
 // The number that a text of digits spells in the base, where it fits 64 bits.
-fn spell(text: &[u8], base: u64) -> Number
+fn spell(text: &[u8], base: u64) -> Result<u64, NumberError>
     requires { 1 ≤ base }
     ensures { result ≡ fitting base text.now }
 {
     let mut number: u64 = 0;
-    let mut i: usize = 0;
-    while i < text.len() {
-        let digit = octets::wide(value(text[i]));
-        if (u64::MAX - digit) / base < number {
-            return Number::TooLarge;
-        }
-        number = number * base + digit;
-        i += 1;
+    for character in text {
+        let digit = u64::from(value(*character));
+        let shifted = number.checked_mul(base).ok_or(NumberError::TooLarge)?;
+        number = shifted.checked_add(digit).ok_or(NumberError::TooLarge)?;
     }
-    Number::Value(number)
+    Ok(number)
 }
 
 // The number that a text spells in the base.
-fn number_in(text: &[u8], base: u8) -> Number
+fn number_in(text: &[u8], base: u8) -> Result<u64, NumberError>
     requires { 1 ≤ base }
     ensures { result ≡ number_in base text.now }
 {
-    let good = digits(text, base);
-    if good < text.len() {
-        return Number::NoNumber;
+    if text.is_empty() || digits(text, base) < text.len() {
+        return Err(NumberError::NoNumber);
     }
-    if text.len() < 1 {
-        return Number::NoNumber;
-    }
-    spell(text, octets::wide(base))
+    spell(text, u64::from(base))
 }
 
 // Whether a text is marked as hex: by 0x, with something behind it.
 fn is_marked(text: &[u8]) -> bool
     ensures { result ≡ marked text.now }
 {
-    if text.len() <= 2 {
-        return false;
-    }
-    if text[0] != b'0' {
-        return false;
-    }
-    text[1] == b'x'
+    2 < text.len() && text.starts_with(b"0x")
 }
 
 // The number that a text spells: in hex behind 0x, and else in decimal.
-pub fn read_number(text: &[u8]) -> Number
+pub fn read_number(text: &[u8]) -> Result<u64, NumberError>
     ensures { result ≡ number_of text.now }
 {
     if is_marked(text) {

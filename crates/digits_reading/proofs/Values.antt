@@ -1,12 +1,15 @@
 -- The value of a character, and the run of digits at a text's start.
-use Prim.Native.Nat.{ℕ, suc, ◌+◌, ◌-◌, ◌<◌, ◌≤◌}
-use mathlib.Core.List.{List}
-use mathlib.Core.Path.{◌≡◌, ap}
-use native.Mathlib.Numerals.{add-one}
+use Prim.Native.Nat.{ℕ, ◌-◌, ◌<◌, ◌≤◌}
+use mathlib.Core.Bool.{Bool, true, false}
+use mathlib.Core.List.{List, [], ◌∷◌}
+use mathlib.Core.Path.{◌≡◌, refl}
 use native.Mathlib.Omega.{arith}
-use borrow.Author.Tests.{lt-ltb, le-ltb, le-leb, lt-leb}
-use lib.ListN.{length, get_or, drop, drop_of_length-le}
-use lib.Seq.{drop-cons}
+use borrow.Author.Tests.{le-leb, lt-leb, ltb-true, ltb-false}
+use lib.Dec.{leb, ltb}
+use lib.ListN.{length}
+use Rattle.std.specs.Prelude.{Option, Some, None, cond}
+use Rattle.std.specs.List.{position_or_len}
+use Rattle.std.specs.Option.{unwrap_or}
 use Rattle.digits_reading.specs.Digits.{value_of, run}
 
 -- ---- between the digits and the letters, in the order of the characters
@@ -56,16 +59,31 @@ module _ (c : ℕ) where
         lt-leb c 102 a,
       )
 
--- ---- the run of digits, from a place on
-module _ (base : ℕ) (t : List ℕ) (i : ℕ) where
-  pub run-turn : i < length t → value_of (get_or t i 0) < base → run base (drop i t) ≡ suc (run base (drop (i + 1) t))
-  unfolding run
-  run-turn l h = rw (drop-cons t i 0 l, add-one i, lt-ltb (value_of (get_or t i 0)) base h)
+-- ---- the run of digits goes up to the first character that is none
+pub run-position : (base : ℕ) (t : List ℕ) → position_or_len (λ c. leb base (value_of c)) t ≡ run base t
+unfolding run
+run-position base [] = refl
+run-position base (c ∷ t) = by (run-position base t) (ltb (value_of c) base) refl
+  where
+    by : position_or_len (λ d. leb base (value_of d)) t ≡ run base t → (b : Bool) → ltb (value_of c) base ≡ b
+        → position_or_len (λ d. leb base (value_of d)) (c ∷ t) ≡ run base (c ∷ t)
+    by rest true p = rw (p, lt-leb base (value_of c) (ltb-true _ _ p)) (omega (arith, rest))
+    by rest false p = rw (p, le-leb base (value_of c) (ltb-false _ _ p)) refl
 
-  pub run-stops : i < length t → base ≤ value_of (get_or t i 0) → run base (drop i t) ≡ 0
-  unfolding run
-  run-stops l h = rw (drop-cons t i 0 l, le-ltb (value_of (get_or t i 0)) base h)
+pub run-le : (base : ℕ) (t : List ℕ) → run base t ≤ length t
+unfolding run
+run-le base [] = omega arith
+run-le base (c ∷ t) = by (run-le base t) (ltb (value_of c) base) refl
+  where
+    by : run base t ≤ length t → (b : Bool) → ltb (value_of c) base ≡ b → run base (c ∷ t) ≤ length (c ∷ t)
+    by rest true p = rw p (omega arith)
+    by rest false p = rw p (omega arith)
 
-  pub run_ends : length t ≤ i → run base (drop i t) ≡ 0
-  unfolding run
-  run_ends l = ap (run base) (drop_of_length-le t l)
+-- the place of the first character that is no digit, or the end
+pub run-or-end : (base : ℕ) (t : List ℕ) (found : Option ℕ) → found ≡ cond (ltb (run base t) (length t)) (Some (run base t)) None
+    → unwrap_or found (length t) ≡ run base t
+run-or-end base t found is = rw is (by (ltb (run base t) (length t)) refl)
+  where
+    by : (b : Bool) → ltb (run base t) (length t) ≡ b → unwrap_or (cond b (Some (run base t)) None) (length t) ≡ run base t
+    by true p = refl
+    by false p = omega (arith, ltb-false _ _ p, run-le base t)

@@ -5,17 +5,15 @@ ghost use Rattle.std.specs.Prelude.{◌≡◌, ◌<◌};
 ghost use Rattle.std.specs.Counts.{IsPrefixLen};
 ghost use Rattle.digits_writing.specs.Hex.{digit_of, Encoded};
 
-use digits_reading::least;
-
 // The hex digit of a number below 16, in lower case.
 fn digit(value: u8) -> u8
     requires { value < 16 }
     ensures { result ≡ digit_of value }
 {
-    if value < 10 {
-        return b'0' + value;
+    match value {
+        0..=9 => b'0' + value,
+        _ => b'a' - 10 + value,
     }
-    b'a' - 10 + value
 }
 
 // Two hex digits for each byte, put at the buffer's start as far as there is room; how many characters there are.
@@ -23,12 +21,10 @@ pub fn encode(bytes: &[u8], buffer: &mut [u8]) -> usize
     ensures prefix_len { IsPrefixLen result buffer.new }
     ensures encoded { Encoded bytes.now buffer.old buffer.new result }
 {
-    let count = least(bytes.len(), buffer.len() / 2);
-    let mut i: usize = 0;
-    while i < count {
-        buffer[2 * i] = digit(bytes[i] / 16);
-        buffer[2 * i + 1] = digit(bytes[i] % 16);
-        i += 1;
+    let count = bytes.len().min(buffer.len() / 2);
+    for (i, byte) in bytes[..count].iter().enumerate() {
+        buffer[2 * i] = digit(*byte / 16);
+        buffer[2 * i + 1] = digit(*byte % 16);
     }
     2 * count
 }

@@ -4,4 +4,4 @@
 pub mod lines;
 pub mod print;
 
-pub use print::{Page, blank, say, say_hex, say_left, say_number, say_right, say_wide};
+pub use print::Page;

@@ -1,163 +1,122 @@
 // A file read by lines, however long it is, through a chunk that the caller lends.
-ghost use Rattle.std.specs.Prelude.{◌≡◌};
+ghost use Rattle.std.specs.Prelude.{◌≡◌, ◌<◌, IfErr, IfOk, IfSome};
 ghost use Rattle.std.specs.Counts.{IsPrefixLen};
 ghost use Rattle.terminal.specs.Blanks.{unblanked, zeroed};
 
+use std::io;
 use std::io::Read;
 
 // A file that is being read, and the part of the chunk that is still to be taken.
 #[derive(Drop)]
-pub struct Source<R> {
-    pub file: R,
-    pub at: usize,
-    pub end: usize,
+struct Source<R> {
+    file: R,
+    at: usize,
+    end: usize,
 }
 
-// What comes next, with the source behind it: a character; the end; or a read that failed.
-#[derive(Drop)]
-pub enum Step<R> {
-    Byte(u8, Source<R>),
-    End(Source<R>),
-    Failed(Source<R>),
-}
-
-// How reading a line went.
-#[derive(Clone, Copy)]
-pub enum Ending {
-    Whole,
+// Why a line is not given: it does not fit, or it cannot be read.
+#[derive(Clone, Copy, Debug, PartialEq, Eq)]
+enum LineError {
     TooLong,
-    End,
-    Failed,
+    Unread,
 }
 
-// A line at the start of a buffer: how it ended, how long it is, and the source behind it.
-#[derive(Drop)]
-pub struct Line<R> {
-    pub ending: Ending,
-    pub length: usize,
-    pub source: Source<R>,
+impl<R: Read> Source<R> {
+    // A file from its start on.
+    fn from_start(file: R) -> Source<R>
+        ensures { (result.file ≡ file) × (result.at ≡ 0) × (result.end ≡ 0) }
+    {
+        Source {
+            file,
+            at: 0,
+            end: 0,
+        }
+    }
+
+    // The next chunk is read, and its first character taken; nothing at the file's end.
+    fn refill(&mut self, chunk: &mut [u8]) -> io::Result<Option<u8>> {
+        let end = self.file.read(chunk)?;
+        if end == 0 {
+            return Ok(None);
+        }
+        self.at = 1;
+        self.end = end;
+        Ok(Some(chunk[0]))
+    }
+
+    // The next character of a file, and nothing at its end.
+    fn next(&mut self, chunk: &mut [u8]) -> io::Result<Option<u8>> {
+        let at = self.at;
+        if at < self.end && at < chunk.len() {
+            self.at = at + 1;
+            return Ok(Some(chunk[at]));
+        }
+        self.refill(chunk)
+    }
+
+    // The rest of a line is passed over.
+    fn skip_line(&mut self, chunk: &mut [u8]) {
+        for _turn in 0..u64::MAX {
+            match self.next(chunk) {
+                Ok(Some(byte)) if byte != b'\n' => {}
+                _ => return,
+            }
+        }
+    }
+
+    // The next line, without its end, put at the start of a buffer: how long it is, and nothing at the file's end. A line that does
+    // not fit is passed over.
+    fn read_line(&mut self, chunk: &mut [u8], line: &mut [u8]) -> Result<Option<usize>, LineError>
+        ensures { IfOk result (λ found. IfSome found (λ length. IsPrefixLen length line.new)) }
+    {
+        for taken in 0..line.len() {
+            match self.next(chunk) {
+                Ok(Some(b'\n')) => return Ok(Some(taken)),
+                Ok(Some(byte)) => line[taken] = byte,
+                Ok(None) => return Ok(if taken == 0 { None } else { Some(taken) }),
+                Err(_) => return Err(LineError::Unread),
+            }
+        }
+        self.skip_line(chunk);
+        Err(LineError::TooLong)
+    }
 }
 
-// A file from its start on.
-pub fn from_start<R>(file: R) -> Source<R>
-    ensures { (result.file ≡ file) × (result.at ≡ 0) × (result.end ≡ 0) }
+// What is done with the lines of a file, each with its number, counted from 1.
+pub trait Lines {
+    fn take(&mut self, number: u64, text: &mut [u8]);
+
+    fn too_long(&mut self, number: u64);
+}
+
+// Each line of a file is taken, until it ends; or the number of the line that cannot be read.
+pub fn each_line<R: Read + Drop>(
+    file: R,
+    chunk: &mut [u8],
+    text: &mut [u8],
+    lines: &mut impl Lines,
+) -> Result<(), u64>
+    ensures { IfErr result (λ number. 0 < number) }
 {
-    Source {
-        file,
-        at: 0,
-        end: 0,
-    }
-}
-
-// The next chunk is read, and its first character taken.
-fn refill<R: Read>(before: Source<R>, chunk: &mut [u8]) -> Step<R> {
-    let mut source = before;
-    match source.file.read(chunk) {
-        Err(_) => Step::Failed(source),
-        Ok(end) => {
-            if end < 1 {
-                return Step::End(source);
-            }
-            source.at = 1;
-            source.end = end;
-            Step::Byte(chunk[0], source)
+    let mut source = Source::from_start(file);
+    for passed in 0..u64::MAX {
+        let number = passed + 1;
+        match source.read_line(chunk, text) {
+            Ok(Some(length)) => lines.take(number, &mut text[..length]),
+            Ok(None) => return Ok(()),
+            Err(LineError::TooLong) => lines.too_long(number),
+            Err(LineError::Unread) => return Err(number),
         }
     }
-}
-
-// The next character of a file.
-fn next<R: Read>(before: Source<R>, chunk: &mut [u8]) -> Step<R> {
-    let mut source = before;
-    let at = source.at;
-    if at < source.end {
-        if at < chunk.len() {
-            source.at = at + 1;
-            return Step::Byte(chunk[at], source);
-        }
-    }
-    refill(source, chunk)
-}
-
-// The rest of a line is passed over.
-fn skip_line<R: Read>(start: Source<R>, chunk: &mut [u8]) -> Source<R> {
-    let mut source = start;
-    let mut turns = u64::MAX;
-    while 0 < turns {
-        match next(source, chunk) {
-            Step::End(behind) => return behind,
-            Step::Failed(behind) => return behind,
-            Step::Byte(byte, behind) => {
-                if byte == b'\n' {
-                    return behind;
-                }
-                source = behind;
-                turns -= 1;
-            }
-        }
-    }
-    source
-}
-
-// How a line ends where the file does: a line that has no character is none.
-fn at_the_end(taken: usize) -> Ending {
-    if taken == 0 {
-        Ending::End
-    } else {
-        Ending::Whole
-    }
-}
-
-// The next line, without its end, put at the start of a buffer. A line that does not fit is passed over.
-pub fn read_line<R: Read>(start: Source<R>, chunk: &mut [u8], line: &mut [u8]) -> Line<R>
-    ensures { IsPrefixLen result.length line.new }
-{
-    let mut source = start;
-    let mut taken: usize = 0;
-    while taken < line.len() {
-        match next(source, chunk) {
-            Step::Failed(behind) => {
-                return Line {
-                    ending: Ending::Failed,
-                    length: 0,
-                    source: behind,
-                };
-            }
-            Step::End(behind) => {
-                return Line {
-                    ending: at_the_end(taken),
-                    length: taken,
-                    source: behind,
-                };
-            }
-            Step::Byte(byte, behind) => {
-                source = behind;
-                if byte == b'\n' {
-                    return Line {
-                        ending: Ending::Whole,
-                        length: taken,
-                        source,
-                    };
-                }
-                line[taken] = byte;
-                taken += 1;
-            }
-        }
-    }
-    Line {
-        ending: Ending::TooLong,
-        length: 0,
-        source: skip_line(source, chunk),
-    }
+    Ok(())
 }
 
 // Each character of a text that is a blank, a tab or a carriage return becomes a zero.
 pub fn blanks_to_zeros(text: &mut [u8])
     ensures { text.new ≡ zeroed text.old }
 {
-    let mut i: usize = 0;
-    while i < text.len() {
-        text[i] = without_blank(text[i]);
-        i += 1;
+    for character in text.iter_mut() {
+        *character = without_blank(*character);
     }
 }
 
@@ -165,14 +124,8 @@ pub fn blanks_to_zeros(text: &mut [u8])
 fn without_blank(character: u8) -> u8
     ensures { result ≡ unblanked character }
 {
-    if character == b' ' {
-        return 0;
+    match character {
+        b' ' | b'\t' | b'\r' => 0,
+        other => other,
     }
-    if character == b'\t' {
-        return 0;
-    }
-    if character == b'\r' {
-        return 0;
-    }
-    character
 }

@@ -1,3 +1,4 @@
 pub mod Separators
 pub mod Lists
 pub mod Agreement
+pub mod Texts

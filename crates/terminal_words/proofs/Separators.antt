@@ -1,14 +1,17 @@
 -- Words of a text, one character a turn.
 use Prim.Native.Nat.{ℕ, suc, ◌+◌, ◌-◌, ◌<◌, ◌≤◌}
 use mathlib.Core.Bool.{Bool, true, false}
-use mathlib.Core.List.{List}
-use mathlib.Core.Path.{◌≡◌, sym, ap, ◌∙◌}
+use mathlib.Core.List.{List, [], ◌∷◌}
+use mathlib.Core.Path.{◌≡◌, refl, sym, ap, ◌∙◌}
 use native.Mathlib.Numerals.{add-one}
-use borrow.Author.Tests.{lt-ltb, le-ltb, eq-eqb, ne_eqb}
-use lib.Dec.{eqb}
+use borrow.Author.Tests.{lt-ltb, le-ltb, eq-eqb, ne_eqb, ltb-false}
+use lib.Dec.{eqb, ltb}
 use native.Mathlib.Omega.{arith}
 use lib.ListN.{length, get_or, take, drop, drop_of_length-le}
 use lib.Seq.{drop-cons}
+use Rattle.std.specs.Prelude.{Option, Some, None, cond}
+use Rattle.std.specs.List.{position_or_len}
+use Rattle.std.specs.Option.{unwrap_or}
 use Rattle.octets.specs.Octets.{part}
 use Rattle.terminal_words.specs.Words.{until, is, end_at, past_at, word_at, word_of, starts_at, words_up_to}
 
@@ -25,6 +28,36 @@ module _ (test : ℕ → Bool) (t : List ℕ) (i : ℕ) where
   pub until-ends : length t ≤ i → until test (drop i t) ≡ 0
   unfolding until
   until-ends l = ap (until test) (drop_of_length-le t l)
+
+-- it is the place of that character, or the end
+pub until-position : (test : ℕ → Bool) (t : List ℕ) → position_or_len test t ≡ until test t
+unfolding until
+until-position test [] = refl
+until-position test (c ∷ t) = by (until-position test t) (test c) refl
+  where
+    by : position_or_len test t ≡ until test t → (b : Bool) → test c ≡ b → position_or_len test (c ∷ t) ≡ until test (c ∷ t)
+    by rest true p = rw p refl
+    by rest false p = rw p (omega (arith, rest))
+
+pub until-le : (test : ℕ → Bool) (t : List ℕ) → until test t ≤ length t
+unfolding until
+until-le test [] = omega arith
+until-le test (c ∷ t) = by (until-le test t) (test c) refl
+  where
+    by : until test t ≤ length t → (b : Bool) → test c ≡ b → until test (c ∷ t) ≤ length (c ∷ t)
+    by rest true p = rw p (omega arith)
+    by rest false p = rw p (omega arith)
+
+pub until-or-end : (test : ℕ → Bool) (t : List ℕ) (n : ℕ) (found : Option ℕ) → n ≡ length t
+    → found ≡ cond (ltb (position_or_len test t) (length t)) (Some (position_or_len test t)) None → unwrap_or found n ≡ until test t
+until-or-end test t n found long is =
+    ap (λ (f : Option ℕ). unwrap_or f n) is
+    ∙ ap (λ (k : ℕ). unwrap_or (cond (ltb k (length t)) (Some k) None) n) (until-position test t)
+    ∙ by (ltb (until test t) (length t)) refl
+  where
+    by : (b : Bool) → ltb (until test t) (length t) ≡ b → unwrap_or (cond b (Some (until test t)) None) n ≡ until test t
+    by true p = refl
+    by false p = omega (arith, ltb-false _ _ p, until-le test t)
 
 -- ---- whether a word starts at a place
 module _ (s : ℕ) (t : List ℕ) (at : ℕ) where

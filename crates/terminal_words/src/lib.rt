@@ -9,32 +9,20 @@ ghost use Rattle.terminal_words.specs.Words.{end_at, past_at, word_at, word_of, 
 pub fn same(a: &[u8], b: &[u8]) -> bool
     ensures { result ≡ Octets.same a.now b.now }
 {
-    if a.len() != b.len() {
-        return false;
-    }
-    let mut i: usize = 0;
-    while i < a.len() {
-        if a[i] != b[i] {
-            return false;
-        }
-        i += 1;
-    }
-    true
+    a == b
 }
 
 // From a place on, where a character stands that is no separator, or the end.
+// Kept: apart from next_separator, since one function over a test would be the same call of position, with clauses on the test besides.
 fn past_separators(text: &[u8], start: usize, separator: u8) -> usize
     requires { start ≤ length text.now }
     ensures { (start ≤ result) × (result ≤ length text.now) × (result ≡ past_at separator text.now start) }
 {
-    let mut at = start;
-    while at < text.len() {
-        if text[at] != separator {
-            return at;
-        }
-        at += 1;
-    }
-    at
+    start
+        + text[start..]
+            .iter()
+            .position(|character| *character != separator)
+            .unwrap_or(text.len() - start)
 }
 
 // From a place on, where a separator stands, or the end.
@@ -42,14 +30,11 @@ pub fn next_separator(text: &[u8], start: usize, separator: u8) -> usize
     requires { start ≤ length text.now }
     ensures { (start ≤ result) × (result ≤ length text.now) × (result ≡ end_at separator text.now start) }
 {
-    let mut at = start;
-    while at < text.len() {
-        if text[at] == separator {
-            return at;
-        }
-        at += 1;
-    }
-    at
+    start
+        + text[start..]
+            .iter()
+            .position(|character| *character == separator)
+            .unwrap_or(text.len() - start)
 }
 
 // Where the word of an index starts, counted from 0, or the end where there are fewer.
@@ -57,10 +42,8 @@ fn word_start(text: &[u8], index: usize, separator: u8) -> usize
     ensures { (result ≤ length text.now) × (result ≡ word_at separator text.now index) }
 {
     let mut at = past_separators(text, 0, separator);
-    let mut i: usize = 0;
-    while i < index {
+    for _i in 0..index {
         at = past_separators(text, next_separator(text, at, separator), separator);
-        i += 1;
     }
     at
 }
@@ -84,10 +67,7 @@ fn starts(text: &[u8], at: usize, separator: u8) -> bool
     if text[at] == separator {
         return false;
     }
-    if at == 0 {
-        return true;
-    }
-    text[at - 1] == separator
+    at == 0 || text[at - 1] == separator
 }
 
 // How many words there are.
@@ -95,12 +75,10 @@ pub fn count(text: &[u8], separator: u8) -> usize
     ensures { result ≡ word_count separator text.now }
 {
     let mut words: usize = 0;
-    let mut at: usize = 0;
-    while at < text.len() {
+    for at in 0..text.len() {
         if starts(text, at, separator) {
             words += 1;
         }
-        at += 1;
     }
     words
 }

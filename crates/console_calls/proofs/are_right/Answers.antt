@@ -1,10 +1,7 @@
-use mathlib.Core.Path.{refl, sym, ◌∙◌}
+use mathlib.Core.Path.{sym, ◌∙◌}
 use native.Mathlib.Omega.{arith}
 use Rattle.console_calls.proofs.Judging.{right-passed, right-stopped, right_end}
 use Rattle.console_calls.proofs.are_right.Goals as goal
-
-pub loop-i-init : goal.loop-i-init
-loop-i-init c = (omega arith, refl)
 
 pub returns-then-not-is_asked : goal.returns-then-not-is_asked
 returns-then-not-is_asked c =
@@ -13,7 +10,7 @@ returns-then-not-is_asked c =
     let word = c.word.ensures in
     let name = c.word-in-loop-i.ensures in
     let told = sym c.is_asked.ensures in
-    sym (right-stopped a.line.now a.usage.now c.requires l.i l.invariant.0 (omega arith) word name (told ∙ c.if-not-is_asked.true)) ∙ l.invariant.1
+    sym (right-stopped a.line.now a.usage.now c.requires l.i (omega arith) (omega arith) word name (told ∙ c.if-not-is_asked.true)) ∙ l.invariant
 
 pub loop-i-preserved : goal.loop-i-preserved
 loop-i-preserved c =
@@ -22,10 +19,10 @@ loop-i-preserved c =
     let word = c.word.ensures in
     let name = c.word-in-loop-i.ensures in
     let told = sym c.is_asked.ensures in
-    (omega arith, sym (right-passed a.line.now a.usage.now c.requires l.i l.invariant.0 (omega arith) word name (told ∙ c.if-not-is_asked.false)) ∙ l.invariant.1)
+    sym (right-passed a.line.now a.usage.now c.requires l.i (omega arith) (omega arith) word name (told ∙ c.if-not-is_asked.false)) ∙ l.invariant
 
 pub returns : goal.returns
 returns c =
     let a = c.args in
     let l = c.loop-i in
-    sym (right_end a.line.now a.usage.now c.requires l.i l.invariant.0 (omega arith)) ∙ l.invariant.1
+    sym (right_end a.line.now a.usage.now c.requires l.i (omega arith) (omega arith)) ∙ l.invariant

@@ -1,10 +1,7 @@
-use mathlib.Core.Path.{refl, sym, ◌∙◌}
+use mathlib.Core.Path.{sym, ◌∙◌}
 use native.Mathlib.Omega.{arith}
 use Rattle.console_calls.proofs.Judging.{usage-found, usage-passed, usage-none}
 use Rattle.console_calls.proofs.usage_of.Goals as goal
-
-pub loop-i-init : goal.loop-i-init
-loop-i-init c = refl
 
 pub returns-then-same : goal.returns-then-same
 returns-then-same c =

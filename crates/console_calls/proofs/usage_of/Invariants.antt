@@ -1,5 +1,4 @@
 -- The lines passed are on other commands.
-use Prim.Native.Nat.{◌-◌}
 use mathlib.Core.Path.{◌≡◌}
 use Rattle.terminal_words.specs.Words.{words_from}
 use Rattle.console_calls.specs.Calls.{usage_among, usage_of}
@@ -7,6 +6,3 @@ use Rattle.console_calls.proofs.usage_of.Given as goal
 
 abbrev pub invariant-loop-i : goal.invariant-loop-i
 invariant-loop-i l = usage_among l.command (words_from 10 l.manual l.i) ≡ usage_of l.manual l.command
-
-abbrev pub decreases-loop-i : goal.decreases-loop-i
-decreases-loop-i l = l.lines - l.i

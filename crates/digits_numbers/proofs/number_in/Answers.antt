@@ -2,23 +2,24 @@
 use Prim.Native.Nat.{ℕ}
 use mathlib.Core.Path.{sym, ap, ◌∙◌}
 use native.Mathlib.Omega.{arith}
+use lib.ListN.{length}
+use borrow.Author.Tests.{eqb-true, eqb-false}
 use Rattle.digits_numbers.specs.Numbers.{fitting}
 use Rattle.digits_numbers.proofs.Reading.{no_digit, nothing, all_digits}
 use Rattle.digits_numbers.proofs.number_in.Goals as goal
+use Rattle.digits_numbers.proofs.number_in.Goals.{then-is_empty-via-then-is_empty, then-is_empty-via-else-is_empty+then-digits-text}
 
-pub returns-then-good-text : goal.returns-then-good-text
-returns-then-good-text c =
+pub returns-then-is_empty : goal.returns-then-is_empty
+returns-then-is_empty c =
     let a = c.args in
-    sym (no_digit a.base a.text.now (omega arith))
-
-pub returns-then-text-lt1 : goal.returns-then-text-lt1
-returns-then-text-lt1 c =
-    let a = c.args in
-    sym (nothing a.base a.text.now (omega arith))
+    elim c.then-is_empty.branch [
+      | then-is_empty-via-then-is_empty w ↦ sym (nothing a.base a.text.now (omega (arith, eqb-true (length a.text.now) 0 (sym w.if-is_empty.ensures))))
+      | then-is_empty-via-else-is_empty+then-digits-text w ↦ sym (no_digit a.base a.text.now (omega arith))
+    ]
 
 pub returns : goal.returns
 returns c =
     let a = c.args in
     c.spell.ensures
-    ∙ ap (λ (b : ℕ). fitting b a.text.now) c.wide.ensures
-    ∙ sym (all_digits a.base a.text.now (omega arith) (omega arith))
+    ∙ ap (λ (b : ℕ). fitting b a.text.now) c.from.ensures
+    ∙ sym (all_digits a.base a.text.now (omega (arith, eqb-false _ _ (sym c.if-is_empty.ensures))) (omega arith))

@@ -12,7 +12,7 @@ pub loop-i-preserved : goal.loop-i-preserved
 loop-i-preserved c =
     let l = c.loop-i in
     let a = c.args in
-    let n = c.least-count.result in
+    let n = c.min-count.result in
     let text = a.text.now in
     let long : length (pairs text) ≡ length text / 2 = pairs-length text in
     let all : length (take n (pairs text)) ≡ n = length-take-le n (pairs text) (omega arith) in
@@ -22,17 +22,16 @@ loop-i-preserved c =
     ap₂ (λ (x y : ℕ). x % 16 * 16 + y % 16) c.value.ensures.0 c.value-in-loop-i.ensures.0
     ∙ sym (pairs-at text l.i (omega arith))
     ∙ sym (get_or-take n (pairs text) l.i 0 (omega arith)) in (
-      omega arith,
-      simp length-set l.invariant.1,
+      simp length-set l.invariant.0,
       ap (λ (k : ℕ). set l.buffer k v) here
-          ∙ lay-turn l.buffer a.buffer.now 0 (take n (pairs text)) l.i v (omega arith) (omega arith) l.invariant.2 byte,
+          ∙ lay-turn l.buffer a.buffer.now 0 (take n (pairs text)) l.i v (omega arith) (omega arith) l.invariant.1 byte,
     )
 
 pub returns : goal.returns
 returns c =
     let l = c.loop-i in
     let a = c.args in
-    let n = c.least-count in
+    let n = c.min-count in
     let text = a.text.now in
     let long : length (pairs text) ≡ length text / 2 = pairs-length text in
     let all : length (take n.result (pairs text)) ≡ n.result = length-take-le n.result (pairs text) (omega arith) in
@@ -40,7 +39,7 @@ returns c =
     let end : l.i ≡ length (take n.result (pairs text)) = omega arith in record {
       prefix_len = (fits, sym (length-take-le _ l.buffer fits));
       decoded = record {
-        counted = n.ensures.0 ∙ ap (λ (k : ℕ). min k (length a.buffer.now)) (sym long);
-        holds = lay-begun l.buffer a.buffer.now (take n.result (pairs text)) l.i end l.invariant.2;
+        counted = n.ensures ∙ ap (λ (k : ℕ). min k (length a.buffer.now)) (sym long);
+        holds = lay-begun l.buffer a.buffer.now (take n.result (pairs text)) l.i end l.invariant.1;
       };
     }

@@ -8,13 +8,13 @@ use Rattle.terminal_words.proofs.count.Goals.{then-starts, else-starts}
 
 pub loop-at-init : goal.loop-at-init
 unfolding words_up_to
-loop-at-init c = (omega arith, omega arith, refl)
+loop-at-init c = (omega arith, refl)
 
 pub loop-at-preserved : goal.loop-at-preserved
 loop-at-preserved c =
     let l = c.loop-at in
     let s = c.starts.ensures in
     elim c.if-starts.branch [
-      | then-starts w ↦ (omega arith, omega arith, w.words-is ∙ ap (λ (n : ℕ). n + 1) l.invariant.2 ∙ sym (count-one _ _ l.at (sym s ∙ w.if-starts.true)))
-      | else-starts w ↦ (omega arith, omega arith, w.words-is ∙ l.invariant.2 ∙ sym (count_none _ _ l.at (sym s ∙ w.if-starts.false)))
+      | then-starts w ↦ (omega arith, w.words-is ∙ ap (λ (n : ℕ). n + 1) l.invariant.1 ∙ sym (count-one _ _ l.at (sym s ∙ w.if-starts.true)))
+      | else-starts w ↦ (omega arith, w.words-is ∙ l.invariant.1 ∙ sym (count_none _ _ l.at (sym s ∙ w.if-starts.false)))
     ]

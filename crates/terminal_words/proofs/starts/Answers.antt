@@ -1,5 +1,6 @@
 -- The tests on the way say what stands at the place and before it.
-use mathlib.Core.Path.{sym}
+use mathlib.Core.Path.{sym, ◌∙◌}
+use borrow.Author.Tests.{eq-eqb}
 use Rattle.terminal_words.proofs.Separators.{starts-ends, starts-not, starts_first, starts-behind}
 use Rattle.terminal_words.proofs.starts.Goals as goal
 
@@ -10,8 +11,8 @@ pub returns-then-text-at-2 : goal.returns-then-text-at-2
 returns-then-text-at-2 c = sym (starts-not _ _ _ c.if-text-at.false c.if-text-at-2.true)
 
 pub returns-then-at-eq0 : goal.returns-then-at-eq0
-returns-then-at-eq0 c = sym (starts_first _ _ _ c.if-text-at.false c.if-text-at-2.false c.if-at-eq0.true)
+returns-then-at-eq0 c = eq-eqb _ _ c.if-at-eq0.true ∙ sym (starts_first _ _ _ c.if-text-at.false c.if-text-at-2.false c.if-at-eq0.true)
 
-pub returns : goal.returns
-returns c =
+pub returns-else-at-eq0 : goal.returns-else-at-eq0
+returns-else-at-eq0 c =
     sym (starts-behind _ _ _ c.if-text-at.false c.if-text-at-2.false c.if-at-eq0.false)

@@ -1,16 +1,16 @@
--- The tests on the way say which character it is.
+-- The arm says which character it is.
+use mathlib.Core.Logic.{⊎_elim}
 use mathlib.Core.Path.{sym}
+use native.Mathlib.Omega.{arith}
 use Rattle.terminal.proofs.Blanks.{blank, tab, carriage-return, no-blank}
 use Rattle.terminal.proofs.lines.without_blank.Goals as goal
 
-pub returns-then-character-eq32 : goal.returns-then-character-eq32
-returns-then-character-eq32 c = sym (blank _ c.if-character-eq32.true)
+pub returns-in-32 : goal.returns-in-32
+returns-in-32 c =
+    ⊎_elim
+    (λ t. sym (tab _ t))
+    (λ rest. ⊎_elim (λ r. sym (carriage-return _ r)) (λ b. sym (blank _ b)) rest)
+    c.in-32.is
 
-pub returns-then-character-eq9 : goal.returns-then-character-eq9
-returns-then-character-eq9 c = sym (tab _ c.if-character-eq9.true)
-
-pub returns-then-character-eq13 : goal.returns-then-character-eq13
-returns-then-character-eq13 c = sym (carriage-return _ c.if-character-eq13.true)
-
-pub returns : goal.returns
-returns c = sym (no-blank _ c.if-character-eq32.false c.if-character-eq9.false c.if-character-eq13.false)
+pub returns-in_default : goal.returns-in_default
+returns-in_default c = sym (no-blank _ (λ e. grind arith) (λ e. grind arith) (λ e. grind arith))
