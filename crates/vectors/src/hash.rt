@@ -7,57 +7,57 @@ use terminal::Page;
 // sha256 MESSAGE
 pub fn sha256(page: &mut Page, line: &[u8]) {
     let mut message = [0u8; 4096];
-    let length = fields::bytes(line, 1, &mut message);
     let k = sha256_constants::round_constants();
-    print::bytes(page, &sha256::hash(&k, &message[..length]));
+    print::bytes(
+        page,
+        &sha256::hash(&k, fields::bytes(line, 1, &mut message)),
+    );
 }
 
 // The hash of a block so many times.
 fn repeated(block: &[u8; 64], count: u32) -> [u8; 32] {
     let k = sha256_constants::round_constants();
     let mut value = sha256_constants::initial();
-    let mut i: u32 = 0;
-    while i < count {
+    for _ in 0..count {
         let next = sha256::compress(&k, value, block);
         value = next;
-        i += 1;
     }
     sha256::finish(&k, value, count as u64 * 64, b"")
 }
 
 // sha256-blocks BLOCK COUNT
 pub fn sha256_blocks(page: &mut Page, line: &[u8]) {
-    let mut block = [0u8; 64];
-    fields::bytes(line, 1, &mut block);
     let count = console::fields::number(line, 2) % 0x100000000;
-    print::bytes(page, &repeated(&block, count as u32));
+    print::bytes(page, &repeated(&fields::array(line, 1), count as u32));
 }
 
 // hmac KEY TEXT
 pub fn hmac(page: &mut Page, line: &[u8]) {
     let mut key = [0u8; 4096];
-    let key_length = fields::bytes(line, 1, &mut key);
     let mut text = [0u8; 4096];
-    let length = fields::bytes(line, 2, &mut text);
-    print::bytes(page, &hmac::hmac(&key[..key_length], &text[..length]));
+    let code = hmac::hmac(
+        fields::bytes(line, 1, &mut key),
+        fields::bytes(line, 2, &mut text),
+    );
+    print::bytes(page, &code);
 }
 
 // extract SALT IKM
 pub fn extract(page: &mut Page, line: &[u8]) {
     let mut salt = [0u8; 4096];
-    let salt_length = fields::bytes(line, 1, &mut salt);
     let mut ikm = [0u8; 4096];
-    let length = fields::bytes(line, 2, &mut ikm);
-    print::bytes(page, &hkdf::extract(&salt[..salt_length], &ikm[..length]));
+    let key = hkdf::extract(
+        fields::bytes(line, 1, &mut salt),
+        fields::bytes(line, 2, &mut ikm),
+    );
+    print::bytes(page, &key);
 }
 
 // expand PRK INFO, to 32 bytes
 pub fn expand(page: &mut Page, line: &[u8]) {
-    let mut prk = [0u8; 32];
-    fields::bytes(line, 1, &mut prk);
     let mut info = [0u8; 255];
-    let length = fields::bytes(line, 2, &mut info);
-    print::bytes(page, &hkdf::expand(&prk, &info[..length]));
+    let prk = fields::array(line, 1);
+    print::bytes(page, &hkdf::expand(&prk, fields::bytes(line, 2, &mut info)));
 }
 
 // As many bytes of a label's expansion as are lent.
@@ -70,11 +70,13 @@ fn labelled(page: &mut Page, secret: &[u8; 32], label: &[u8], out: &mut [u8])
 
 // expand-label SECRET LABEL LENGTH
 pub fn expand_label(page: &mut Page, line: &[u8]) {
-    let mut secret = [0u8; 32];
-    fields::bytes(line, 1, &mut secret);
+    let secret = fields::array(line, 1);
     let mut label = [0u8; 249];
-    let length = fields::bytes(line, 2, &mut label);
     let mut out = [0u8; 32];
-    let size = fields::room(line, 3, &out);
-    labelled(page, &secret, &label[..length], &mut out[..size]);
+    labelled(
+        page,
+        &secret,
+        fields::bytes(line, 2, &mut label),
+        fields::within(line, 3, &mut out),
+    );
 }

@@ -1,28 +1,24 @@
 // RFC 9000 section 17.2: headers read.
 use crate::{fields, print};
-use header_fields::Place;
-use header_parts::{header_destination, header_source, header_token};
-use header_reading::{Header, Reading, read_header};
+use header_fields::{Part, Place};
+use header_parts::header_part;
+use header_reading::{Header, read_header};
 use terminal::Page;
 
 // How long a part is, and where it stands.
 fn place(page: &mut Page, names: &[u8], index: usize, found: Place) {
     print::more(page, names, index, found.len as u64);
-    terminal::say(page, b" at ");
-    terminal::say_number(page, found.at as u64);
+    page.show(format_args!(" at {}", found.at));
 }
 
 // The fields of a header that was read.
 fn read(page: &mut Page, names: &[u8], header: Header) {
-    let destination = header.destination;
-    let source = header.source;
-    let token = header.token;
-    terminal::say(page, b"read");
+    page.say(b"read");
     print::more(page, names, 0, header.version as u64);
     print::more(page, names, 1, header.level as u64);
-    place(page, names, 2, destination);
-    place(page, names, 3, source);
-    place(page, names, 4, token);
+    place(page, names, 2, header.destination);
+    place(page, names, 3, header.source);
+    place(page, names, 4, header.token);
     print::more(page, names, 5, header.length as u64);
     print::more(page, names, 6, header.number_at as u64);
 }
@@ -31,18 +27,17 @@ fn read(page: &mut Page, names: &[u8], header: Header) {
 fn answered(page: &mut Page, datagram: &[u8]) {
     let names = b"version,level,destination,source,token,Length,number at";
     match read_header(datagram) {
-        Reading::Refused(why) => print::refusal(page, why),
-        Reading::Read(header) => read(page, names, header),
+        Err(why) => print::refusal(page, why),
+        Ok(header) => read(page, names, header),
     }
-    print::part(page, names, 2, header_destination(datagram));
-    print::part(page, names, 3, header_source(datagram));
-    print::part(page, names, 4, header_token(datagram));
+    print::part(page, names, 2, header_part(datagram, Part::Destination));
+    print::part(page, names, 3, header_part(datagram, Part::Source));
+    print::part(page, names, 4, header_part(datagram, Part::Token));
     print::end(page);
 }
 
 // header DATAGRAM [PLACE BYTE SIZE]
 pub fn header(page: &mut Page, line: &[u8]) {
     let mut datagram = [0u8; 4096];
-    let length = fields::packet(line, 1, &mut datagram);
-    answered(page, &datagram[..length]);
+    answered(page, fields::packet(line, 1, &mut datagram));
 }

@@ -15,10 +15,10 @@ mod retrying;
 mod sealing;
 
 use std::io;
-use terminal::blank;
+use terminal::Page;
 
 fn main(rt: HostRuntime) -> io::Result<()> {
-    let mut page = blank(rt.stdout());
+    let mut page = Page::blank(rt.stdout());
     lines::run(&rt, &mut page);
     page.written
 }

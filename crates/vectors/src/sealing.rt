@@ -2,86 +2,51 @@
 use crate::making::record_of;
 use crate::{fields, print};
 use console::fields::number;
+use header_writing::Plain;
 use numbers::FullPn;
-use seal_judging::Sealing;
+use octets::refusal::Refusal;
 use terminal::Page;
 use wicket_words::acknowledged;
 
-// What sealing into a buffer answered.
-fn answer(page: &mut Page, sealing: Sealing, out: &[u8]) {
-    match sealing {
-        Sealing::Refused(why) => print::refused(page, why),
-        Sealing::Written(size) => print::written(page, out, size),
-    }
-}
-
-// A packet of either form, sealed into a buffer: the long one has no token.
+// A packet sealed into a buffer, with or without a field for a token.
+// Kept: apart from wicket's, and so is a Retry's, for the words are other ones (55:3:7 is bytes), and so are the keys (any version and level).
 fn seal_into(
-    page: &mut Page,
     line: &[u8],
-    long: bool,
-    token: &[u8],
+    token: Option<&[u8]>,
     payload: &[u8],
     out: &mut [u8],
-) {
-    let keys = record_of(line);
-    let full = FullPn(number(line, 4));
-    let count = number(line, 6) as usize;
+) -> Result<usize, Refusal> {
     let mut destination = [0u8; 4096];
-    let longer = fields::bytes(line, 7, &mut destination);
     let mut source = [0u8; 4096];
-    let length = fields::bytes(line, 8, &mut source);
-    if long {
-        let sealing = seal::seal_long(
-            keys,
-            full,
-            acknowledged(line, 5),
-            count,
-            &destination[..longer],
-            &source[..length],
-            payload,
-            out,
-        );
-        answer(page, sealing, out);
-        return;
-    }
-    let sealing = seal::seal(
-        keys,
-        full,
-        acknowledged(line, 5),
-        count,
-        &destination[..longer],
-        &source[..length],
+    let plain = Plain {
+        number: FullPn(number(line, 4)),
+        number_length: number(line, 6) as usize,
+        destination: fields::bytes(line, 7, &mut destination),
+        source: fields::bytes(line, 8, &mut source),
         token,
         payload,
-        out,
-    );
-    answer(page, sealing, out);
+    };
+    seal::seal(record_of(line), acknowledged(line, 5), plain, out)
 }
 
 // seal VERSION ID|LEVEL:SECRET client|server NUMBER ACKNOWLEDGED LENGTH DESTINATION SOURCE TOKEN PAYLOAD ROOM
 pub fn seal(page: &mut Page, line: &[u8]) {
     let mut token = [0u8; 4096];
-    let longer = fields::bytes(line, 9, &mut token);
+    let token = fields::bytes(line, 9, &mut token);
     let mut payload = [0u8; 4096];
-    let length = fields::bytes(line, 10, &mut payload);
+    let payload = fields::bytes(line, 10, &mut payload);
     let mut out = [0u8; 4096];
-    let room = fields::room(line, 11, &out);
-    seal_into(
-        page,
-        line,
-        false,
-        &token[..longer],
-        &payload[..length],
-        &mut out[..room],
-    );
+    let out = fields::within(line, 11, &mut out);
+    let sealing = seal_into(line, Some(token), payload, out);
+    print::written(page, sealing, out);
 }
 
 // seal-long VERSION ID|LEVEL:SECRET client|server NUMBER ACKNOWLEDGED LENGTH DESTINATION SOURCE PAYLOAD ROOM
 pub fn seal_long(page: &mut Page, line: &[u8]) {
     let mut payload = [0u8; 4096];
-    let length = fields::bytes(line, 9, &mut payload);
+    let payload = fields::bytes(line, 9, &mut payload);
     let mut out = [0u8; 4096];
-    let room = fields::room(line, 10, &out);
-    seal_into(page, line, true, b"", &payload[..length], &mut out[..room]);
+    let out = fields::within(line, 10, &mut out);
+    let sealing = seal_into(line, None, payload, out);
+    print::written(page, sealing, out);
 }

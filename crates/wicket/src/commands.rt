@@ -5,37 +5,30 @@ use console_words::wrong;
 use std::io::Input;
 use std::rt::Files;
 use terminal::Page;
-use terminal_words::{same, word};
+use terminal_words::word;
 
 // A call of any command but script.
-fn make(rt: &(impl Files + Input), page: &mut Page, command: &[u8], line: &[u8]) {
-    if same(command, b"keys") {
-        crate::making::keys(page, line);
-    } else if same(command, b"install") {
-        crate::making::install(page, line);
-    } else if same(command, b"seal") {
-        crate::sealing::seal(page, line);
-    } else if same(command, b"seal-long") {
-        crate::sealing::seal_long(page, line);
-    } else if same(command, b"open") {
-        crate::opening::open(page, line);
-    } else if same(command, b"header") {
-        crate::headers::header(page, line);
-    } else if same(command, b"retry") {
-        crate::retrying::retry(page, line);
-    } else if same(command, b"check-retry") {
-        crate::retrying::check_retry(page, line);
-    } else if same(command, b"receive") {
-        crate::receiving::receive(rt, page, line);
-    } else {
-        wrong(page, b"call");
-        terminal::say(page, b"a script calls no script\n");
+fn make(rt: &(impl Files + Input), page: &mut Page, line: &[u8]) {
+    match word(line, 0, END) {
+        b"keys" => crate::making::keys(page, line),
+        b"install" => crate::making::install(page, line),
+        b"seal" => crate::sealing::seal(page, line),
+        b"seal-long" => crate::sealing::seal_long(page, line),
+        b"open" => crate::opening::open(page, line),
+        b"header" => crate::headers::header(page, line),
+        b"retry" => crate::retrying::retry(page, line),
+        b"check-retry" => crate::retrying::check(page, line),
+        b"receive" => crate::receiving::receive(rt, page, line),
+        _ => {
+            wrong(page, b"call");
+            page.say(b"a script calls no script\n");
+        }
     }
 }
 
 // A call of any command but script, if it is as the manual has it.
 pub fn call(rt: &(impl Files + Input), page: &mut Page, line: &[u8], manual: &[u8]) {
     if is_well_made(page, line, manual) {
-        make(rt, page, word(line, 0, END), line);
+        make(rt, page, line);
     }
 }

@@ -1,31 +1,33 @@
 // wicket header.
 use console::{answers, fields};
-use header_parts::{header_destination, header_source, header_token};
-use header_reading::{Header, Reading, read_header};
+use header_fields::{Part, Place};
+use header_parts::header_part;
+use header_reading::{Header, read_header};
 use terminal::Page;
+
+// A part of a datagram that was read, where it stands.
+pub fn part(page: &mut Page, label: &[u8], place: Place, value: &[u8]) {
+    answers::part(page, label, place.len, place.at, value);
+}
 
 // The fields of a header that was read from a datagram.
 fn read(page: &mut Page, header: Header, datagram: &[u8]) {
-    let destination = header.destination;
-    let source = header.source;
-    let token = header.token;
     answers::hex_word(page, b"version", header.version);
     answers::level(page, b"level", header.level);
-    answers::part(
-        page,
-        b"destination",
-        destination.len,
-        destination.at,
-        header_destination(datagram),
-    );
-    answers::part(
+    let destination = header_part(datagram, Part::Destination);
+    part(page, b"destination", header.destination, destination);
+    part(
         page,
         b"source",
-        source.len,
-        source.at,
-        header_source(datagram),
+        header.source,
+        header_part(datagram, Part::Source),
     );
-    answers::part(page, b"token", token.len, token.at, header_token(datagram));
+    part(
+        page,
+        b"token",
+        header.token,
+        header_part(datagram, Part::Token),
+    );
     answers::number(page, b"Length", header.length as u64);
     answers::number(page, b"number at", header.number_at as u64);
 }
@@ -33,9 +35,9 @@ fn read(page: &mut Page, header: Header, datagram: &[u8]) {
 // wicket header DATAGRAM
 pub fn header(page: &mut Page, line: &[u8]) {
     let mut datagram = [0u8; 4096];
-    let length = fields::bytes(line, 1, &mut datagram);
-    match read_header(&datagram[..length]) {
-        Reading::Refused(why) => answers::refused(page, why),
-        Reading::Read(header) => read(page, header, &datagram[..length]),
+    let datagram = fields::bytes(line, 1, &mut datagram);
+    match read_header(datagram) {
+        Err(why) => answers::refused(page, why),
+        Ok(header) => read(page, header, datagram),
     }
 }

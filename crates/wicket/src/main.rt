@@ -11,7 +11,7 @@ mod scripts;
 mod sealing;
 
 use std::io;
-use terminal::blank;
+use terminal::Page;
 
 fn main(rt: HostRuntime) -> io::Result<()> {
     let manual = b"wicket keys VERSION ID client|server
@@ -25,7 +25,7 @@ wicket check-retry ORIGINAL DATAGRAM
 wicket receive VERSION ID|LEVEL:SECRET client|server EXPECTED FILE
 wicket script FILE
 ";
-    let mut page = blank(rt.stdout());
+    let mut page = Page::blank(rt.stdout());
     scripts::program(&rt, &mut page, manual);
     page.written
 }

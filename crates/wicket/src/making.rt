@@ -1,24 +1,22 @@
 // wicket keys, wicket install.
 use console::answers;
-use keys::MadeKeys;
+use octets::refusal::Refusal;
+use protection::Keys;
 use terminal::Page;
 use wicket_words::{initial_of, installed_of};
 
 // Keys, or why there are none.
-fn show(page: &mut Page, made: MadeKeys) {
-    if made.refused != 0 {
-        answers::refused(page, made.refused);
-        return;
+fn show(page: &mut Page, made: Result<Keys, Refusal>) {
+    match made {
+        Err(why) => answers::refused(page, why),
+        Ok(keys) => {
+            answers::hex_word(page, b"version", keys.version);
+            answers::level(page, b"level", keys.level);
+            answers::bytes(page, b"key", &keys.key);
+            answers::bytes(page, b"iv", &keys.iv);
+            answers::bytes(page, b"hp", &keys.hp);
+        }
     }
-    let keys = made.keys;
-    let key = keys.key;
-    let iv = keys.iv;
-    let hp = keys.hp;
-    answers::hex_word(page, b"version", keys.version);
-    answers::level(page, b"level", keys.level);
-    answers::bytes(page, b"key", &key);
-    answers::bytes(page, b"iv", &iv);
-    answers::bytes(page, b"hp", &hp);
 }
 
 // wicket keys VERSION ID client|server

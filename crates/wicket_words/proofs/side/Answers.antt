@@ -1,19 +1,12 @@
 -- The word is compared.
-use Prim.Native.Nat.{ℕ}
-use mathlib.Core.List.{List}
-use mathlib.Core.Path.{sym, ap, ◌∙◌}
-use Rattle.octets.specs.Octets.{same}
+use mathlib.Core.Path.{sym, ◌∙◌}
 use Rattle.octets.specs.Text.{ascii}
 use Rattle.wicket_words.proofs.side.Goals as goal
 
 pub returns-then-same : goal.returns-then-same
 unfolding ascii
-returns-then-same c =
-    let is = c.same.ensures ∙ ap (λ (t : List ℕ). same t (ascii "server")) c.word.ensures in
-    rw (sym is ∙ c.if-same.true)
+returns-then-same c = rw (sym c.word.ensures, sym c.same.ensures ∙ c.if-same.true)
 
-pub returns : goal.returns
+pub returns-else-same : goal.returns-else-same
 unfolding ascii
-returns c =
-    let is = c.same.ensures ∙ ap (λ (t : List ℕ). same t (ascii "server")) c.word.ensures in
-    rw (sym is ∙ c.if-same.false)
+returns-else-same c = rw (sym c.word.ensures, sym c.same.ensures ∙ c.if-same.false)
