@@ -3,7 +3,7 @@
 use driftwicket::Refusal;
 
 const HEADER: &str = include_str!("../../../include/driftwicket.h");
-const TERMINAL: &str = include_str!("../../../crates/console/src/answers.rt");
+const TERMINAL: &str = include_str!("../../../crates/octets/src/refusal.rt");
 
 /// The first text between quotation marks behind a mark.
 fn quoted<'t>(text: &'t str, mark: &str) -> &'t str {
@@ -34,7 +34,8 @@ fn the_header_has_the_same_numbers_and_words() {
 
 #[test]
 fn the_terminal_has_the_same_words() {
-    let table = TERMINAL.lines().skip_while(|line| !line.starts_with("const WORDS")).skip(1);
-    let words: Vec<_> = table.take(Refusal::ALL.len()).map(|line| line.split("\\n").next()).collect();
-    assert_eq!(words, Refusal::ALL.map(|refusal| Some(refusal.words())));
+    for refusal in Refusal::ALL {
+        assert!(TERMINAL.contains(&format!("    {refusal:?} = {},", refusal.number())), "{refusal:?}");
+        assert_eq!(quoted(TERMINAL, &format!("Refusal::{refusal:?} =>")), refusal.words());
+    }
 }
