@@ -81,7 +81,7 @@ static size_t run(uint8_t *answer) {
         return gcm(answer);
     case KEYS:
         derive();
-        memcpy(answer, at.keys + 4, 44);
+        memcpy(answer, at.keys + 5, 44); /* behind version and level */
         return 44;
     case SEAL_FRESH:
         derive();
