@@ -1,5 +1,6 @@
 // What is answered: a row for each value, and a refusal by its number and its words.
 ghost use Rattle.std.specs.Prelude.{◌≡◌};
+ghost use Rattle.terminal.specs.Pages.{FailureStays};
 ghost use Rattle.console.specs.Answers.{inside};
 
 use octets::refusal::Refusal;
@@ -9,32 +10,42 @@ use terminal::Page;
 const LABEL: usize = 15;
 
 // A refusal, as a line.
-pub fn refused(page: &mut Page, why: Refusal) {
+pub fn refused(page: &mut Page, why: Refusal)
+    ensures { FailureStays page.old page.new }
+{
     let number = why.number();
     page.show(format_args!("refused {number}: {why}\n"));
 }
 
 // A row of bytes.
-pub fn bytes(page: &mut Page, label: &[u8], value: &[u8]) {
+pub fn bytes(page: &mut Page, label: &[u8], value: &[u8])
+    ensures { FailureStays page.old page.new }
+{
     page.left(label, LABEL);
     page.hex(value);
     page.say(b"\n");
 }
 
 // A row of a number.
-pub fn number(page: &mut Page, label: &[u8], value: u64) {
+pub fn number(page: &mut Page, label: &[u8], value: u64)
+    ensures { FailureStays page.old page.new }
+{
     page.left(label, LABEL);
     page.show(format_args!("{value}\n"));
 }
 
 // A row of a word of 32 bits, in hex.
-pub fn hex_word(page: &mut Page, label: &[u8], value: u32) {
+pub fn hex_word(page: &mut Page, label: &[u8], value: u32)
+    ensures { FailureStays page.old page.new }
+{
     page.left(label, LABEL);
     page.show(format_args!("0x{value:08x}\n"));
 }
 
 // A row of a level, by its name (RFC 9001 section 4), and by nothing where it has none.
-pub fn level(page: &mut Page, label: &[u8], value: u8) {
+pub fn level(page: &mut Page, label: &[u8], value: u8)
+    ensures { FailureStays page.old page.new }
+{
     let name = match value {
         0 => "initial",
         1 => "0-rtt",
@@ -46,13 +57,17 @@ pub fn level(page: &mut Page, label: &[u8], value: u8) {
 }
 
 // A count of bytes.
-fn counted(page: &mut Page, count: usize) {
+fn counted(page: &mut Page, count: usize)
+    ensures { FailureStays page.old page.new }
+{
     let unit = if count == 1 { "byte" } else { "bytes" };
     page.show(format_args!("{count} {unit}"));
 }
 
 // The rest of a row: bytes, if there are any.
-fn listed(page: &mut Page, value: &[u8]) {
+fn listed(page: &mut Page, value: &[u8])
+    ensures { FailureStays page.old page.new }
+{
     if !value.is_empty() {
         page.say(b": ");
         page.hex(value);
@@ -61,7 +76,9 @@ fn listed(page: &mut Page, value: &[u8]) {
 }
 
 // A row of a part of something: how long it is, where it stands, its bytes.
-pub fn part(page: &mut Page, label: &[u8], length: usize, at: usize, value: &[u8]) {
+pub fn part(page: &mut Page, label: &[u8], length: usize, at: usize, value: &[u8])
+    ensures { FailureStays page.old page.new }
+{
     page.left(label, LABEL);
     counted(page, length);
     page.show(format_args!(" at {at}"));
@@ -69,7 +86,9 @@ pub fn part(page: &mut Page, label: &[u8], length: usize, at: usize, value: &[u8
 }
 
 // A row of bytes with their count in front.
-pub fn sized(page: &mut Page, label: &[u8], value: &[u8]) {
+pub fn sized(page: &mut Page, label: &[u8], value: &[u8])
+    ensures { FailureStays page.old page.new }
+{
     page.left(label, LABEL);
     counted(page, value.len());
     listed(page, value);

@@ -1,6 +1,7 @@
 // Files that a call names.
 ghost use Rattle.std.specs.Prelude.{true, ◌≡◌, ◌+◌, ◌-◌, ◌^◌, min};
 ghost use Rattle.octets.specs.Octets as Octets;
+ghost use Rattle.terminal.specs.Pages.{FailureStays};
 ghost use Rattle.console.specs.Fields.{dash};
 ghost use Rattle.console.specs.Files.{is_comment, IsStandardInput};
 
@@ -63,12 +64,16 @@ pub fn is_comment(text: &[u8]) -> bool
 }
 
 // A line that is too long is passed over.
-pub fn too_long(page: &mut Page, line: u64) {
+pub fn too_long(page: &mut Page, line: u64)
+    ensures { FailureStays page.old page.new }
+{
     page.show(format_args!("line {line} is too long\n"));
 }
 
 // A line cannot be read.
-pub fn unread(page: &mut Page, line: u64) {
+pub fn unread(page: &mut Page, line: u64)
+    ensures { FailureStays page.old page.new }
+{
     page.show(format_args!("line {line} cannot be read\n"));
 }
 

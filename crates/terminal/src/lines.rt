@@ -90,6 +90,7 @@ pub trait Lines {
 }
 
 // Each line of a file is taken, until it ends; or the number of the line that cannot be read.
+// Kept: a length from `read_line` beside `text`; `Lines` gets the slice, which it may write into.
 pub fn each_line<R: Read + Drop>(
     file: R,
     chunk: &mut [u8],

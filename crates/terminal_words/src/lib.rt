@@ -6,6 +6,7 @@ ghost use Rattle.octets.specs.Octets as Octets;
 ghost use Rattle.terminal_words.specs.Words.{end_at, past_at, word_at, word_of, starts_at, word_count};
 
 // Whether two texts are the same.
+// Kept: docs/TRACE.md names it, and text_compared_with_itself.edit stands in it.
 pub fn same(a: &[u8], b: &[u8]) -> bool
     ensures { result ≡ Octets.same a.now b.now }
 {

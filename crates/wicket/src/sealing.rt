@@ -7,7 +7,7 @@ use terminal::Page;
 use wicket_words::{acknowledged, keys_of};
 
 // A packet that was written at a buffer's start, or why there is none.
-// Kept: a length beside the buffer, for that is what sealing and writing a Retry answer.
+// Kept: a length beside the buffer, as `seal::seal` and `retry_writing::write_retry` answer one (`Seal`, `WriteRetry`).
 pub fn written(page: &mut Page, size: Result<usize, Refusal>, buffer: &[u8]) {
     match size {
         Err(why) => answers::refused(page, why),
