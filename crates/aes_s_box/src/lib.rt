@@ -24,7 +24,7 @@ const S_BOX: [u8; 256] = *b"\
     \x8c\xa1\x89\x0d\xbf\xe6\x42\x68\x41\x99\x2d\x0f\xb0\x54\xbb\x16";
 
 // A table of the S-box's bytes.
-#[derive(Drop)]
+#[derive(Clone, Copy)]
 pub struct SBox {
     pub bytes: [u8; 256],
     pub ghost is_box: { Box bytes },

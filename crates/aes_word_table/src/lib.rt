@@ -40,7 +40,7 @@ const MIXING: [u32; 256] = [
 ];
 
 // A table of these words.
-#[derive(Drop)]
+#[derive(Clone, Copy)]
 pub struct MixingTable {
     pub words: [u32; 256],
     pub ghost is_mixing: { Mixing words },

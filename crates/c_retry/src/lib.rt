@@ -9,9 +9,27 @@ use retry_checking::RetryFields;
 use retry_writing::Retry;
 
 // Writes a Retry at the output's start, and reports its length.
-pub fn write_retry(retry: Retry, out: &mut [u8], report: &mut [u64; 1]) -> u32
-    ensures { DwWriteRetry retry.entry.version retry.entry.original.now retry.entry.destination.now retry.entry.source.now retry.entry.token.now retry.entry.low_bits report.old result report.new out.old out.new }
+// Kept: the parameters of the function for C, as in `c_seal::seal`.
+pub fn write_retry(
+    version: u32,
+    original: &[u8],
+    destination: &[u8],
+    source: &[u8],
+    token: &[u8],
+    low_bits: u64,
+    out: &mut [u8],
+    report: &mut [u64; 1],
+) -> u32
+    ensures { DwWriteRetry version original.now destination.now source.now token.now low_bits report.old result report.new out.old out.new }
 {
+    let retry = Retry {
+        version,
+        original,
+        destination,
+        source,
+        token,
+        low_bits,
+    };
     let written = retry_writing::write_retry(retry, out);
     let numbers = written.map(
         |size|

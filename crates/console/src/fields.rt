@@ -27,19 +27,19 @@ pub fn number(line: &[u8], index: usize) -> u64
     value(word(line, index, END))
 }
 
-// The bytes that a word of a call spells, put at the buffer's start as far as there is room; how many there are.
-fn spell(line: &[u8], index: usize, buffer: &mut [u8]) -> usize
+// The bytes that a word of a call spells, put at the buffer's start; how many there are. A page holds more than any field may have,
+// so that a longer word is refused as it would be whole.
+pub fn bytes(line: &[u8], index: usize, buffer: &mut [u8]) -> usize
     ensures prefix_len { IsPrefixLen result buffer.new }
     ensures decoded { Decoded (word_of 0 line.now index) buffer.old buffer.new result }
 {
     decode(word(line, index, END), buffer)
 }
 
-// The bytes that a word of a call spells, at the start of a buffer as far as there is room. A page holds more than any field may have,
-// so that a longer word is refused as it would be whole.
-pub fn bytes<'a>(line: &[u8], index: usize, buffer: &'a mut [u8]) -> &'a [u8]
+// The same bytes, handed out. What the buffer holds behind them `bytes` says, for nothing can be said here of a buffer that is lent on.
+pub fn spelled<'a>(line: &[u8], index: usize, buffer: &'a mut [u8]) -> &'a [u8]
     ensures { result.now ≡ take (length buffer.old) (pairs (word_of 0 line.now index)) }
 {
-    let length = spell(line, index, buffer);
+    let length = bytes(line, index, buffer);
     &buffer[..length]
 }

@@ -13,9 +13,6 @@ ghost use Rattle.c_header.specs.Promises.{DwReadHeader};
 ghost use Rattle.c_retry.specs.Promises.{DwWriteRetry, DwCheckRetry};
 
 use c_key_record::KeyRecord;
-use header_writing::Plain;
-use numbers::FullPn;
-use retry_writing::Retry;
 
 // RFC 9000 section 16: reports the value of the integer at the start, and the bytes it took.
 #[unsafe(no_mangle)]
@@ -109,43 +106,49 @@ pub extern "C" fn dw_seal(
 ) -> u32
     ensures { DwSeal keys.now any_acknowledged acknowledged (record { destination = destination.now; source = source.now; token = holding token.now; payload = payload.now; packet_number = number; number_length = length }) report.old result report.new out.old out.new }
 {
-    let plain = Plain {
-        number: FullPn(number),
-        number_length: length,
+    c_seal::seal(
+        keys,
+        number,
+        any_acknowledged,
+        acknowledged,
+        length,
         destination,
         source,
-        token: Some(token),
+        token,
         payload,
-    };
-    c_seal::seal(keys, any_acknowledged, acknowledged, plain, out, report)
+        out,
+        report,
+    )
 }
 
-// RFC 9001 section 5: seals a 0-RTT or Handshake packet, by the level of the keys, and reports its length. The lifetime is named because
-// the check doesn't cover a struct with one lifetime for several of a signature.
+// RFC 9001 section 5: seals a 0-RTT or Handshake packet, by the level of the keys, and reports its length.
 #[unsafe(no_mangle)]
-pub extern "C" fn dw_seal_long<'a>(
+pub extern "C" fn dw_seal_long(
     keys: &KeyRecord,
     number: u64,
     any_acknowledged: u32,
     acknowledged: u64,
     length: usize,
-    destination: &'a [u8],
-    source: &'a [u8],
-    payload: &'a [u8],
+    destination: &[u8],
+    source: &[u8],
+    payload: &[u8],
     out: &mut [u8],
     report: &mut [u64; 1],
 ) -> u32
     ensures { DwSeal keys.now any_acknowledged acknowledged (record { destination = destination.now; source = source.now; token = absent; payload = payload.now; packet_number = number; number_length = length }) report.old result report.new out.old out.new }
 {
-    let plain = Plain {
-        number: FullPn(number),
-        number_length: length,
+    c_seal::seal_long(
+        keys,
+        number,
+        any_acknowledged,
+        acknowledged,
+        length,
         destination,
         source,
-        token: None,
         payload,
-    };
-    c_seal::seal(keys, any_acknowledged, acknowledged, plain, out, report)
+        out,
+        report,
+    )
 }
 
 // RFC 9001 section 5: opens the packet that begins a datagram, and reports its number, the number's length, the header's and the
@@ -186,15 +189,16 @@ pub extern "C" fn dw_write_retry(
 ) -> u32
     ensures { DwWriteRetry version original.now destination.now source.now token.now low_bits report.old result report.new out.old out.new }
 {
-    let retry = Retry {
+    c_retry::write_retry(
         version,
         original,
         destination,
         source,
         token,
         low_bits,
-    };
-    c_retry::write_retry(retry, out, report)
+        out,
+        report,
+    )
 }
 
 // RFC 9001 section 5.8: checks a Retry, and reports the version, and place and length of both IDs and of the token.

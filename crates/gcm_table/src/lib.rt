@@ -36,7 +36,7 @@ fn fill_run(table: &mut [Block], e: usize, v: Block)
 }
 
 // The table of a hash key: all its entries are right.
-#[derive(Drop)]
+#[derive(Clone, Copy)]
 pub struct KeyTable {
     pub entries: [Block; 128],
     pub ghost is_table: { Table entries },

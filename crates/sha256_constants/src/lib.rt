@@ -20,7 +20,7 @@ const INITIAL: [u32; 8] = [
 ];
 
 // Section 4.2.2: the round constants. Whoever lends them lends K, and no function asks for that.
-#[derive(Drop)]
+#[derive(Clone, Copy)]
 pub struct Constants {
     pub words: [u32; 64],
     pub ghost are_k: { words ≡ K },

@@ -35,9 +35,9 @@ fn read(page: &mut Page, header: Header, datagram: &[u8]) {
 // wicket header DATAGRAM
 pub fn header(page: &mut Page, line: &[u8]) {
     let mut datagram = [0u8; 4096];
-    let datagram = fields::bytes(line, 1, &mut datagram);
+    let datagram = fields::spelled(line, 1, &mut datagram);
     match read_header(datagram) {
-        Err(why) => answers::refused(page, why),
+        Err(why) => answers::refused(page, why.number()),
         Ok(header) => read(page, header, datagram),
     }
 }

@@ -8,7 +8,7 @@ use wicket_words::{initial_of, installed_of};
 // Keys, or why there are none.
 fn show(page: &mut Page, made: Result<Keys, Refusal>) {
     match made {
-        Err(why) => answers::refused(page, why),
+        Err(why) => answers::refused(page, why.number()),
         Ok(keys) => {
             answers::hex_word(page, b"version", keys.version);
             answers::level(page, b"level", keys.level);

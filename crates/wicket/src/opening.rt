@@ -24,7 +24,7 @@ fn opened(page: &mut Page, found: Opened, buffer: &[u8], expected: u64) {
 fn open_into(line: &[u8], expected: &mut u64, out: &mut [u8]) -> Result<Opened, Refusal> {
     let keys = keys_of(line)?;
     let mut datagram = [0u8; 4096];
-    open::open(keys, expected, fields::bytes(line, 5, &mut datagram), out)
+    open::open(keys, expected, fields::spelled(line, 5, &mut datagram), out)
 }
 
 // wicket open VERSION ID|LEVEL:SECRET client|server EXPECTED DATAGRAM
@@ -32,7 +32,7 @@ pub fn open(page: &mut Page, line: &[u8]) {
     let mut expected = fields::number(line, 4);
     let mut out = [0u8; 4096];
     match open_into(line, &mut expected, &mut out) {
-        Err(why) => answers::refused(page, why),
+        Err(why) => answers::refused(page, why.number()),
         Ok(found) => opened(page, found, &out, expected),
     }
 }

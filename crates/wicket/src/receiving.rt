@@ -47,19 +47,19 @@ impl Receiver<'_> {
         let mut out = [0u8; 4096];
         match open::open(self.keys, &mut self.expected, &datagram[..length], &mut out) {
             Err(why) => {
-                answers::refused(self.page, why);
-                self.refused = self.refused.saturating_add(1);
+                answers::refused(self.page, why.number());
+                self.refused = files::next(self.refused);
             }
             Ok(found) => {
                 opened(self.page, found, &out, length);
-                self.opened = self.opened.saturating_add(1);
+                self.opened = files::next(self.opened);
             }
         }
     }
 
     // One more line could not be read.
     fn miss(&mut self) {
-        self.unread = self.unread.saturating_add(1);
+        self.unread = files::next(self.unread);
     }
 
     // What came of all.
@@ -128,7 +128,7 @@ fn receive_with(rt: &(impl Files + Input), page: &mut Page, keys: Keys, line: &[
 // wicket receive VERSION ID|LEVEL:SECRET client|server EXPECTED FILE
 pub fn receive(rt: &(impl Files + Input), page: &mut Page, line: &[u8]) {
     match keys_of(line) {
-        Err(why) => answers::refused(page, why),
+        Err(why) => answers::refused(page, why.number()),
         Ok(keys) => receive_with(rt, page, keys, line),
     }
 }

@@ -17,10 +17,10 @@ fn retry_into(line: &[u8], out: &mut [u8]) -> Result<usize, Refusal> {
     let mut token = [0u8; 4096];
     let retry = Retry {
         version: wicket_words::version(line, 1),
-        original: fields::bytes(line, 2, &mut original),
-        destination: fields::bytes(line, 3, &mut destination),
-        source: fields::bytes(line, 4, &mut source),
-        token: fields::bytes(line, 5, &mut token),
+        original: fields::spelled(line, 2, &mut original),
+        destination: fields::spelled(line, 3, &mut destination),
+        source: fields::spelled(line, 4, &mut source),
+        token: fields::spelled(line, 5, &mut token),
         low_bits: fields::number(line, 6),
     };
     write_retry(retry, out)
@@ -47,11 +47,11 @@ fn checked(page: &mut Page, found: RetryFields, original: &[u8], datagram: &[u8]
 // wicket check-retry ORIGINAL DATAGRAM
 pub fn check(page: &mut Page, line: &[u8]) {
     let mut original = [0u8; 4096];
-    let original = fields::bytes(line, 1, &mut original);
+    let original = fields::spelled(line, 1, &mut original);
     let mut datagram = [0u8; 4096];
-    let datagram = fields::bytes(line, 2, &mut datagram);
+    let datagram = fields::spelled(line, 2, &mut datagram);
     match check_retry(original, datagram) {
-        Err(why) => answers::refused(page, why),
+        Err(why) => answers::refused(page, why.number()),
         Ok(found) => checked(page, found, original, datagram),
     }
 }

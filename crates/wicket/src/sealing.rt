@@ -10,7 +10,7 @@ use wicket_words::{acknowledged, keys_of};
 // Kept: a length beside the buffer, as `seal::seal` and `retry_writing::write_retry` answer one (`Seal`, `WriteRetry`).
 pub fn written(page: &mut Page, size: Result<usize, Refusal>, buffer: &[u8]) {
     match size {
-        Err(why) => answers::refused(page, why),
+        Err(why) => answers::refused(page, why.number()),
         Ok(size) => {
             answers::number(page, b"length", size as u64);
             answers::bytes(page, b"packet", answers::within(buffer, 0, size));
@@ -31,8 +31,8 @@ fn seal_into(
     let plain = Plain {
         number: FullPn(fields::number(line, 4)),
         number_length: fields::number(line, 6) as usize,
-        destination: fields::bytes(line, 7, &mut destination),
-        source: fields::bytes(line, 8, &mut source),
+        destination: fields::spelled(line, 7, &mut destination),
+        source: fields::spelled(line, 8, &mut source),
         token,
         payload,
     };
@@ -42,9 +42,9 @@ fn seal_into(
 // wicket seal VERSION ID|LEVEL:SECRET client|server NUMBER ACKNOWLEDGED LENGTH DESTINATION SOURCE TOKEN PAYLOAD
 pub fn seal(page: &mut Page, line: &[u8]) {
     let mut token = [0u8; 4096];
-    let token = fields::bytes(line, 9, &mut token);
+    let token = fields::spelled(line, 9, &mut token);
     let mut payload = [0u8; 4096];
-    let payload = fields::bytes(line, 10, &mut payload);
+    let payload = fields::spelled(line, 10, &mut payload);
     let mut out = [0u8; 4096];
     let sealing = seal_into(line, Some(token), payload, &mut out);
     written(page, sealing, &out);
@@ -53,7 +53,7 @@ pub fn seal(page: &mut Page, line: &[u8]) {
 // wicket seal-long VERSION ID|LEVEL:SECRET client|server NUMBER ACKNOWLEDGED LENGTH DESTINATION SOURCE PAYLOAD
 pub fn seal_long(page: &mut Page, line: &[u8]) {
     let mut payload = [0u8; 4096];
-    let payload = fields::bytes(line, 9, &mut payload);
+    let payload = fields::spelled(line, 9, &mut payload);
     let mut out = [0u8; 4096];
     let sealing = seal_into(line, None, payload, &mut out);
     written(page, sealing, &out);

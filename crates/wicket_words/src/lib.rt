@@ -68,9 +68,9 @@ pub fn acknowledged(line: &[u8], index: usize) -> Option<FullPn>
 pub fn initial_of(line: &[u8]) -> Result<Keys, Refusal>
     ensures { Made (initial_named line.now) result }
 {
-    let mut page = [0u8; 4096];
-    let id = fields::bytes(line, 2, &mut page);
-    initial_keys(version(line, 1), id, side(line, 3))
+    let mut id = [0u8; 4096];
+    let length = fields::bytes(line, 2, &mut id);
+    initial_keys(version(line, 1), &id[..length], side(line, 3))
 }
 
 // The keys of a level and a secret, for the version and the side that the first and the third word behind a command name.
