@@ -1,7 +1,7 @@
 // RFC 9000 section 17.2: headers read.
 use crate::{fields, print};
-use header_fields::{Part, Place};
-use header_parts::header_part;
+use header_fields::Place;
+use header_parts::{header_destination, header_source, header_token};
 use header_reading::{Header, read_header};
 use terminal::Page;
 
@@ -30,9 +30,9 @@ fn answered(page: &mut Page, datagram: &[u8]) {
         Err(why) => print::refusal(page, why),
         Ok(header) => read(page, names, header),
     }
-    print::part(page, names, 2, header_part(datagram, Part::Destination));
-    print::part(page, names, 3, header_part(datagram, Part::Source));
-    print::part(page, names, 4, header_part(datagram, Part::Token));
+    print::part(page, names, 2, header_destination(datagram));
+    print::part(page, names, 3, header_source(datagram));
+    print::part(page, names, 4, header_token(datagram));
     print::end(page);
 }
 

@@ -1,10 +1,9 @@
 // RFC 9001 section 5.8: Retry packets written and checked.
 use crate::{fields, print};
 use console::fields::number;
-use header_fields::Part;
 use octets::refusal::Refusal;
 use retry_checking::check_retry;
-use retry_parts::retry_part;
+use retry_parts::{retry_destination, retry_source, retry_token};
 use retry_writing::{Retry, write_retry};
 use terminal::Page;
 
@@ -43,14 +42,9 @@ fn checked(page: &mut Page, original: &[u8], datagram: &[u8]) {
             print::more(page, names, 0, fields.version as u64);
         }
     }
-    print::part(
-        page,
-        names,
-        1,
-        retry_part(original, datagram, Part::Destination),
-    );
-    print::part(page, names, 2, retry_part(original, datagram, Part::Source));
-    print::part(page, names, 3, retry_part(original, datagram, Part::Token));
+    print::part(page, names, 1, retry_destination(original, datagram));
+    print::part(page, names, 2, retry_source(original, datagram));
+    print::part(page, names, 3, retry_token(original, datagram));
     print::end(page);
 }
 
