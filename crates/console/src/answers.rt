@@ -28,6 +28,7 @@ const REFUSALS: [Refusal; 14] = [
 ];
 
 // A refusal by its number, as a line: no words where no refusal has it, and of 0 that it is none.
+// Kept: a number, and no Refusal, which would ask more of callers.
 pub fn refused(page: &mut Page, number: u8)
     ensures { FailureStays page.old page.new }
 {

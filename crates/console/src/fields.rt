@@ -29,6 +29,7 @@ pub fn number(line: &[u8], index: usize) -> u64
 
 // The bytes that a word of a call spells, put at the buffer's start; how many there are. A page holds more than any field may have,
 // so that a longer word is refused as it would be whole.
+// Kept: a length beside the buffer, for the contract says what the whole buffer holds.
 pub fn bytes(line: &[u8], index: usize, buffer: &mut [u8]) -> usize
     ensures prefix_len { IsPrefixLen result buffer.new }
     ensures decoded { Decoded (word_of 0 line.now index) buffer.old buffer.new result }
