@@ -9,30 +9,12 @@ use terminal::Page;
 // The width of a row's label.
 const LABEL: usize = 15;
 
-// Each refusal: docs/SCOPE.md, "Refusals".
-const REFUSALS: [Refusal; 14] = [
-    Refusal::Size,
-    Refusal::Form,
-    Refusal::NotWhole,
-    Refusal::Version,
-    Refusal::LongId,
-    Refusal::Type,
-    Refusal::Short,
-    Refusal::Room,
-    Refusal::Reserved,
-    Refusal::Range,
-    Refusal::Tag,
-    Refusal::Length,
-    Refusal::NoToken,
-    Refusal::Gap,
-];
-
 // A refusal by its number, as a line: no words where no refusal has it, and of 0 that it is none.
 // Kept: a number, and no Refusal, which would ask more of callers.
 pub fn refused(page: &mut Page, number: u8)
     ensures { FailureStays page.old page.new }
 {
-    match REFUSALS.iter().find(|why| why.number() == number) {
+    match Refusal::numbered(number) {
         Some(why) => page.show(format_args!("refused {number}: {why}\n")),
         None if number == 0 => page.say(b"refused 0: no refusal\n"),
         None => page.show(format_args!("refused {number}: \n")),

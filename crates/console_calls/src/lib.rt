@@ -4,6 +4,7 @@
 ghost use Rattle.std.specs.Prelude.{true, ◌≡◌};
 ghost use Rattle.terminal_words.specs.Words.{words_from};
 ghost use Rattle.console_calls.specs.Calls.{are_right, usage_of, enough, well_made};
+ghost use Rattle.terminal.specs.Pages.{FailureStays};
 
 use console::fields::END;
 use console_keys::is_asked;
@@ -34,7 +35,9 @@ fn usage_of<'a>(manual: &'a [u8], command: &[u8]) -> &'a [u8]
 }
 
 // The whole manual, and what its names mean.
-fn show(page: &mut Page, manual: &[u8]) {
+fn show(page: &mut Page, manual: &[u8])
+    ensures { FailureStays page.old page.new }
+{
     page.say(b"usage:\n");
     page.say(manual);
     page.say(&NOTES);
@@ -68,7 +71,9 @@ fn are_right(page: &mut Page, line: &[u8], usage: &[u8]) -> bool
 }
 
 // A word that is no command; where there is none, nothing is wrong with it.
-fn unknown(page: &mut Page, command: &[u8]) {
+fn unknown(page: &mut Page, command: &[u8])
+    ensures { FailureStays page.old page.new }
+{
     if !command.is_empty() {
         wrong(page, b"call");
         page.say(command);

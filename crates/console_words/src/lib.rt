@@ -3,6 +3,7 @@
 
 ghost use Rattle.std.specs.Prelude.{◌≡◌};
 ghost use Rattle.console_words.specs.Words.{is_hex, is_number, is_side, is_count, is_right};
+ghost use Rattle.terminal.specs.Pages.{FailureStays};
 
 use digits_numbers::{NumberError, read_number};
 use digits_reading::digits;
@@ -13,7 +14,9 @@ use terminal_words::same;
 pub const VERSIONS: u64 = 0xffffffff;
 
 // What is wrong with something of a name follows.
-pub fn wrong(page: &mut Page, name: &[u8]) {
+pub fn wrong(page: &mut Page, name: &[u8])
+    ensures { FailureStays page.old page.new }
+{
     page.say(b"wrong ");
     page.say(name);
     page.say(b": ");

@@ -1,7 +1,7 @@
 -- An outcome fixes the answer that stands for it: no two refusals have one number.
 use Prim.Native.Nat.{ℕ}
-use mathlib.Core.Path.{◌≡◌, refl, ap}
-use Rattle.std.specs.Prelude.{◌-◌, [], ◌∷◌, get_or, Result, Ok, Err, IsErrAnd}
+use mathlib.Core.Path.{◌≡◌, refl, sym, ap}
+use Rattle.std.specs.Prelude.{◌-◌, [], ◌∷◌, get_or, Option, None, Some, IfSome, Result, Ok, Err, IsErrAnd}
 use Rattle.octets.specs.Outcome.{Outcome, refused, given}
 use Rattle.octets.specs.Refusals.{number_of, outcome}
 use Rattle.octets.specs.declared.refusal.Refusal.{Refusal}
@@ -29,6 +29,13 @@ refusal-back Refusal.Gap = refl
 
 pub number-once : {n : ℕ} {x y : Refusal} → number_of x ≡ n → number_of y ≡ n → x ≡ y
 number-once = once number_of refusal_of refusal-back
+
+-- a number has one refusal, or none
+pub numbered-once : {n : ℕ} {r r' : Option Refusal} → IfSome r (λ why. number_of why ≡ n) → IfSome r' (λ why. number_of why ≡ n)
+    → ((why : Refusal) → number_of why ≡ n → r ≡ Some why) → ((why : Refusal) → number_of why ≡ n → r' ≡ Some why) → r ≡ r'
+numbered-once {r = Some x} has has' whole whole' = sym (whole' x has)
+numbered-once {r = None} {r' = Some y} has has' whole whole' = whole y has'
+numbered-once {r = None} {r' = None} has has' whole whole' = refl
 
 -- the answer that stands for an outcome, by what stands for its values
 answer_of : {A B : Type 0} → (B → A) → Outcome B → Result A Refusal

@@ -1,5 +1,6 @@
 // FIPS 197 and SP 800-38D: the block cipher, its schedule and its S-box, and GCM; the mask of RFC 9001 section 5.4.3.
 ghost use Rattle.std.specs.Prelude.{◌≤◌, length};
+ghost use Rattle.terminal.specs.Pages.{FailureStays};
 
 use crate::{fields, print};
 use aes_engines::Both;
@@ -11,28 +12,38 @@ fn encrypted(line: &[u8]) -> Both {
 }
 
 // aes KEY BLOCK, on bytes
-pub fn aes(page: &mut Page, line: &[u8]) {
+pub fn aes(page: &mut Page, line: &[u8])
+    ensures { FailureStays page.old page.new }
+{
     print::bytes(page, &encrypted(line).bytes);
 }
 
 // aes-words KEY BLOCK: the same by the engine on words, which the library uses
-pub fn aes_words(page: &mut Page, line: &[u8]) {
+pub fn aes_words(page: &mut Page, line: &[u8])
+    ensures { FailureStays page.old page.new }
+{
     print::bytes(page, &encrypted(line).words);
 }
 
 // aes-mask KEY SAMPLE: the first five bytes alone
-pub fn aes_mask(page: &mut Page, line: &[u8]) {
+pub fn aes_mask(page: &mut Page, line: &[u8])
+    ensures { FailureStays page.old page.new }
+{
     let block = encrypted(line).words;
     print::bytes(page, &block[..5]);
 }
 
 // aes-schedule KEY
-pub fn aes_schedule(page: &mut Page, line: &[u8]) {
+pub fn aes_schedule(page: &mut Page, line: &[u8])
+    ensures { FailureStays page.old page.new }
+{
     print::bytes(page, &aes_schedule::expand_key(&fields::array(line, 1)));
 }
 
 // aes-s-box
-pub fn aes_s_box(page: &mut Page) {
+pub fn aes_s_box(page: &mut Page)
+    ensures { FailureStays page.old page.new }
+{
     print::bytes(page, &aes_s_box::table().bytes);
 }
 
@@ -63,7 +74,9 @@ fn seal(
 }
 
 // gcm KEY NONCE ASSOCIATED PLAIN
-pub fn gcm(page: &mut Page, line: &[u8]) {
+pub fn gcm(page: &mut Page, line: &[u8])
+    ensures { FailureStays page.old page.new }
+{
     let mut associated = [0u8; 4096];
     let mut plain = [0u8; 4096];
     let mut out = [0u8; 4096];

@@ -3,6 +3,7 @@ ghost use Rattle.std.specs.Prelude.{◌≡◌};
 ghost use Rattle.protection.specs.KeyRecord.{keys_of};
 ghost use Rattle.keys.specs.Answers.{blank_keys};
 ghost use Rattle.vectors.specs.Records.{record_named};
+ghost use Rattle.terminal.specs.Pages.{FailureStays};
 
 use crate::{fields, print};
 use console::fields::{END, number};
@@ -15,7 +16,9 @@ use terminal_words::{count, word};
 use wicket_words::{initial_of, side, version};
 
 // Keys, or why there are none.
-fn show(page: &mut Page, made: Result<Keys, Refusal>) {
+fn show(page: &mut Page, made: Result<Keys, Refusal>)
+    ensures { FailureStays page.old page.new }
+{
     let names = b"level,key,iv,hp";
     match made {
         Err(why) => print::refusal(page, why),
@@ -31,12 +34,16 @@ fn show(page: &mut Page, made: Result<Keys, Refusal>) {
 }
 
 // keys VERSION ID client|server
-pub fn keys(page: &mut Page, line: &[u8]) {
+pub fn keys(page: &mut Page, line: &[u8])
+    ensures { FailureStays page.old page.new }
+{
     show(page, initial_of(line));
 }
 
 // install VERSION LEVEL client|server SECRET: the level is a number, up to 32 bits
-pub fn install(page: &mut Page, line: &[u8]) {
+pub fn install(page: &mut Page, line: &[u8])
+    ensures { FailureStays page.old page.new }
+{
     let level = number(line, 2) % 0x100000000;
     let secret = fields::array(line, 4);
     show(

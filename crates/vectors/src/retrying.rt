@@ -1,4 +1,6 @@
 // RFC 9001 section 5.8: Retry packets written and checked.
+ghost use Rattle.terminal.specs.Pages.{FailureStays};
+
 use crate::{fields, print};
 use console::fields::number;
 use octets::refusal::Refusal;
@@ -25,7 +27,9 @@ fn retry_into(line: &[u8], out: &mut [u8]) -> Result<usize, Refusal> {
 }
 
 // retry VERSION ORIGINAL DESTINATION SOURCE TOKEN LOW-BITS ROOM
-pub fn retry(page: &mut Page, line: &[u8]) {
+pub fn retry(page: &mut Page, line: &[u8])
+    ensures { FailureStays page.old page.new }
+{
     let mut page_of = [0u8; 4096];
     let out = fields::within(line, 7, &mut page_of);
     let written = retry_into(line, out);
@@ -33,7 +37,9 @@ pub fn retry(page: &mut Page, line: &[u8]) {
 }
 
 // The answer on a Retry, and the parts handed out of it.
-fn checked(page: &mut Page, original: &[u8], datagram: &[u8]) {
+fn checked(page: &mut Page, original: &[u8], datagram: &[u8])
+    ensures { FailureStays page.old page.new }
+{
     let names = b"version,destination,source,token";
     match check_retry(original, datagram) {
         Err(why) => print::refusal(page, why),
@@ -49,7 +55,9 @@ fn checked(page: &mut Page, original: &[u8], datagram: &[u8]) {
 }
 
 // check-retry ORIGINAL DATAGRAM [PLACE BYTE SIZE]
-pub fn check(page: &mut Page, line: &[u8]) {
+pub fn check(page: &mut Page, line: &[u8])
+    ensures { FailureStays page.old page.new }
+{
     let mut original = [0u8; 4096];
     let mut datagram = [0u8; 4096];
     checked(

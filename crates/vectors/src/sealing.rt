@@ -1,4 +1,6 @@
 // RFC 9001 section 5.3: packets sealed.
+ghost use Rattle.terminal.specs.Pages.{FailureStays};
+
 use crate::making::record_of;
 use crate::{fields, print};
 use console::fields::number;
@@ -30,7 +32,9 @@ fn seal_into(
 }
 
 // seal VERSION ID|LEVEL:SECRET client|server NUMBER ACKNOWLEDGED LENGTH DESTINATION SOURCE TOKEN PAYLOAD ROOM
-pub fn seal(page: &mut Page, line: &[u8]) {
+pub fn seal(page: &mut Page, line: &[u8])
+    ensures { FailureStays page.old page.new }
+{
     let mut token = [0u8; 4096];
     let token = fields::bytes(line, 9, &mut token);
     let mut payload = [0u8; 4096];
@@ -42,7 +46,9 @@ pub fn seal(page: &mut Page, line: &[u8]) {
 }
 
 // seal-long VERSION ID|LEVEL:SECRET client|server NUMBER ACKNOWLEDGED LENGTH DESTINATION SOURCE PAYLOAD ROOM
-pub fn seal_long(page: &mut Page, line: &[u8]) {
+pub fn seal_long(page: &mut Page, line: &[u8])
+    ensures { FailureStays page.old page.new }
+{
     let mut payload = [0u8; 4096];
     let payload = fields::bytes(line, 9, &mut payload);
     let mut out = [0u8; 4096];

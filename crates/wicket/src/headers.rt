@@ -1,4 +1,6 @@
 // wicket header.
+ghost use Rattle.terminal.specs.Pages.{FailureStays};
+
 use console::{answers, fields};
 use header_fields::{Part, Place};
 use header_parts::header_part;
@@ -6,12 +8,16 @@ use header_reading::{Header, read_header};
 use terminal::Page;
 
 // A part of a datagram that was read, where it stands.
-pub fn part(page: &mut Page, label: &[u8], place: Place, value: &[u8]) {
+pub fn part(page: &mut Page, label: &[u8], place: Place, value: &[u8])
+    ensures { FailureStays page.old page.new }
+{
     answers::part(page, label, place.len, place.at, value);
 }
 
 // The fields of a header that was read from a datagram.
-fn read(page: &mut Page, header: Header, datagram: &[u8]) {
+fn read(page: &mut Page, header: Header, datagram: &[u8])
+    ensures { FailureStays page.old page.new }
+{
     answers::hex_word(page, b"version", header.version);
     answers::level(page, b"level", header.level);
     let destination = header_part(datagram, Part::Destination);
@@ -33,7 +39,9 @@ fn read(page: &mut Page, header: Header, datagram: &[u8]) {
 }
 
 // wicket header DATAGRAM
-pub fn header(page: &mut Page, line: &[u8]) {
+pub fn header(page: &mut Page, line: &[u8])
+    ensures { FailureStays page.old page.new }
+{
     let mut datagram = [0u8; 4096];
     let datagram = fields::spelled(line, 1, &mut datagram);
     match read_header(datagram) {

@@ -1,4 +1,6 @@
 // wicket keys, wicket install.
+ghost use Rattle.terminal.specs.Pages.{FailureStays};
+
 use console::answers;
 use octets::refusal::Refusal;
 use protection::Keys;
@@ -6,7 +8,9 @@ use terminal::Page;
 use wicket_words::{initial_of, installed_of};
 
 // Keys, or why there are none.
-fn show(page: &mut Page, made: Result<Keys, Refusal>) {
+fn show(page: &mut Page, made: Result<Keys, Refusal>)
+    ensures { FailureStays page.old page.new }
+{
     match made {
         Err(why) => answers::refused(page, why.number()),
         Ok(keys) => {
@@ -20,11 +24,15 @@ fn show(page: &mut Page, made: Result<Keys, Refusal>) {
 }
 
 // wicket keys VERSION ID client|server
-pub fn keys(page: &mut Page, line: &[u8]) {
+pub fn keys(page: &mut Page, line: &[u8])
+    ensures { FailureStays page.old page.new }
+{
     show(page, initial_of(line));
 }
 
 // wicket install VERSION LEVEL client|server SECRET
-pub fn install(page: &mut Page, line: &[u8]) {
+pub fn install(page: &mut Page, line: &[u8])
+    ensures { FailureStays page.old page.new }
+{
     show(page, installed_of(line));
 }

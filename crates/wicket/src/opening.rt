@@ -1,4 +1,6 @@
 // wicket open.
+ghost use Rattle.terminal.specs.Pages.{FailureStays};
+
 use console::{answers, fields};
 use octets::refusal::Refusal;
 use open_writing::Opened;
@@ -6,7 +8,9 @@ use terminal::Page;
 use wicket_words::keys_of;
 
 // What was opened into a buffer, and the number expected then.
-fn opened(page: &mut Page, found: Opened, buffer: &[u8], expected: u64) {
+fn opened(page: &mut Page, found: Opened, buffer: &[u8], expected: u64)
+    ensures { FailureStays page.old page.new }
+{
     let header = found.header_length;
     answers::number(page, b"number", found.number.0);
     answers::number(page, b"number length", found.number_length as u64);
@@ -28,7 +32,9 @@ fn open_into(line: &[u8], expected: &mut u64, out: &mut [u8]) -> Result<Opened, 
 }
 
 // wicket open VERSION ID|LEVEL:SECRET client|server EXPECTED DATAGRAM
-pub fn open(page: &mut Page, line: &[u8]) {
+pub fn open(page: &mut Page, line: &[u8])
+    ensures { FailureStays page.old page.new }
+{
     let mut expected = fields::number(line, 4);
     let mut out = [0u8; 4096];
     match open_into(line, &mut expected, &mut out) {

@@ -1,4 +1,6 @@
 // wicket receive: the datagrams of a file, one after the other, through one receiver.
+ghost use Rattle.terminal.specs.Pages.{FailureStays};
+
 use console::fields::END;
 use console::{answers, fields, files};
 use open_writing::Opened;
@@ -26,7 +28,9 @@ struct Receiver<'a> {
 }
 
 // A packet that was opened, as a row: number, payload's length, its first bytes, and what stands behind the packet.
-fn opened(page: &mut Page, found: Opened, buffer: &[u8], length: usize) {
+fn opened(page: &mut Page, found: Opened, buffer: &[u8], length: usize)
+    ensures { FailureStays page.old page.new }
+{
     let payload = answers::within(buffer, found.header_length, found.payload_length);
     page.show(format_args!("{:>6}{:>9}  ", found.number.0, found.payload_length));
     page.hex(&payload[..payload.len().min(SHOWN)]);

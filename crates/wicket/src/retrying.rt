@@ -1,4 +1,6 @@
 // wicket retry, wicket check-retry.
+ghost use Rattle.terminal.specs.Pages.{FailureStays};
+
 use crate::headers::part;
 use crate::sealing::written;
 use console::{answers, fields};
@@ -27,14 +29,18 @@ fn retry_into(line: &[u8], out: &mut [u8]) -> Result<usize, Refusal> {
 }
 
 // wicket retry VERSION ORIGINAL DESTINATION SOURCE TOKEN LOW-BITS
-pub fn retry(page: &mut Page, line: &[u8]) {
+pub fn retry(page: &mut Page, line: &[u8])
+    ensures { FailureStays page.old page.new }
+{
     let mut out = [0u8; 4096];
     let writing = retry_into(line, &mut out);
     written(page, writing, &out);
 }
 
 // The fields of a Retry that was accepted.
-fn checked(page: &mut Page, found: RetryFields, original: &[u8], datagram: &[u8]) {
+fn checked(page: &mut Page, found: RetryFields, original: &[u8], datagram: &[u8])
+    ensures { FailureStays page.old page.new }
+{
     let destination = retry_part(original, datagram, Part::Destination);
     let source = retry_part(original, datagram, Part::Source);
     let token = retry_part(original, datagram, Part::Token);
@@ -45,7 +51,9 @@ fn checked(page: &mut Page, found: RetryFields, original: &[u8], datagram: &[u8]
 }
 
 // wicket check-retry ORIGINAL DATAGRAM
-pub fn check(page: &mut Page, line: &[u8]) {
+pub fn check(page: &mut Page, line: &[u8])
+    ensures { FailureStays page.old page.new }
+{
     let mut original = [0u8; 4096];
     let original = fields::spelled(line, 1, &mut original);
     let mut datagram = [0u8; 4096];

@@ -1,4 +1,6 @@
 // wicket seal, wicket seal-long.
+ghost use Rattle.terminal.specs.Pages.{FailureStays};
+
 use console::{answers, fields};
 use header_writing::Plain;
 use numbers::FullPn;
@@ -8,7 +10,9 @@ use wicket_words::{acknowledged, keys_of};
 
 // A packet that was written at a buffer's start, or why there is none.
 // Kept: a length beside the buffer, as `seal::seal` and `retry_writing::write_retry` answer one (`Seal`, `WriteRetry`).
-pub fn written(page: &mut Page, size: Result<usize, Refusal>, buffer: &[u8]) {
+pub fn written(page: &mut Page, size: Result<usize, Refusal>, buffer: &[u8])
+    ensures { FailureStays page.old page.new }
+{
     match size {
         Err(why) => answers::refused(page, why.number()),
         Ok(size) => {
@@ -40,7 +44,9 @@ fn seal_into(
 }
 
 // wicket seal VERSION ID|LEVEL:SECRET client|server NUMBER ACKNOWLEDGED LENGTH DESTINATION SOURCE TOKEN PAYLOAD
-pub fn seal(page: &mut Page, line: &[u8]) {
+pub fn seal(page: &mut Page, line: &[u8])
+    ensures { FailureStays page.old page.new }
+{
     let mut token = [0u8; 4096];
     let token = fields::spelled(line, 9, &mut token);
     let mut payload = [0u8; 4096];
@@ -51,7 +57,9 @@ pub fn seal(page: &mut Page, line: &[u8]) {
 }
 
 // wicket seal-long VERSION ID|LEVEL:SECRET client|server NUMBER ACKNOWLEDGED LENGTH DESTINATION SOURCE PAYLOAD
-pub fn seal_long(page: &mut Page, line: &[u8]) {
+pub fn seal_long(page: &mut Page, line: &[u8])
+    ensures { FailureStays page.old page.new }
+{
     let mut payload = [0u8; 4096];
     let payload = fields::spelled(line, 9, &mut payload);
     let mut out = [0u8; 4096];
